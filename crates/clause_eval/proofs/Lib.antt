@@ -8,7 +8,6 @@ mod Callees
 mod CallsAdded
 mod CallsAnswered
 mod CandidatesAnswered
-mod Conjoined
 mod ConjunctionsSited
 mod Elements
 mod EmptyEngine
@@ -18,7 +17,6 @@ mod Falls
 mod Finished
 mod FrameEnvironments
 mod FrameNamed
-mod FramePlaces
 mod FramesSaid
 mod FunctionsNamed
 mod Heights
@@ -28,6 +26,7 @@ mod Insides
 mod KeptStores
 mod KeptTrees
 mod KnownLines
+mod LinesNumbered
 mod Lower
 pub mod MadeTrees
 mod Named

@@ -1,5 +1,5 @@
 -- What the use of a variable answers, by the name that it means: the expression of a let, what a step captures, or an argument of the call whose frame the scope's frame is.
-use Rattle.std.proofs.Common.{◌≡◌, ℕ, zero, suc, ◌++◌, ◌*◌, ◌<◌, ◌≤◌, refl, sym, ap, ◌∙◌, subst, inl, inr, arith, slice_get, List, [], ◌∷◌, length, get_or, map, Option, Some, None, option_and_then, option_map}
+use Rattle.std.proofs.Common.{◌≡◌, ℕ, zero, suc, ◌++◌, ◌*◌, ◌<◌, ◌≤◌, refl, sym, ap, ◌∙◌, subst, inl, inr, arith, slice_get, List, [], ◌∷◌, length, map, Option, Some, None, option_and_then, option_map}
 use Rattle.std.specs.Option.{option_map_or}
 use Rattle.std.specs.Prelude.{IsSome}
 use Rattle.std.proofs.lemmas.Option.{none-some, same_Some}
@@ -7,7 +7,7 @@ use Rattle.evidence_lines.specs.declared.line.Line.{Line}
 use Rattle.evidence_lines.specs.declared.line.LineKind.TheVariants as kind
 use Rattle.evidence_lines.specs.declared.line.Outcome.TheVariants as says
 use Rattle.guard_syntax.specs.Syntax.{Expr, Exprs, File, Query, Step, splice, var}
-use Rattle.guard_syntax.specs.code.Seen.{expr_list, see_expr, see_query, see_step, step_list}
+use Rattle.guard_syntax.specs.code.Seen.{see_expr, see_query, see_step, step_list}
 use Rattle.guard_syntax.specs.declared.row.Ref.{Ref}
 use Rattle.guard_syntax.specs.declared.row.Row.{Row}
 use Rattle.guard_syntax.specs.declared.syntax.Expr as code
@@ -30,7 +30,6 @@ use Rattle.scope_frames.specs.code.Frames.{outwards}
 use Rattle.scope_frames.specs.code.Scoping.{up_of}
 use Rattle.scope_frames.specs.declared.cell.Cell.{Cell}
 use Rattle.scope_frames.specs.declared.frame.Frame.{Frame}
-use Rattle.scope_frames.proofs.ArgumentsSeen.{expr-counted, expr-listed}
 use Rattle.clause_eval.specs.code.Adding.{Added, line_for}
 use Rattle.clause_eval.specs.code.Answers.{AnswersArgument, AnswersCapture, AnswersExpr, AnswersPiece, AnswersQuery, AnswersStepAt, AnswersVariable, GivesStepAt, IsCapturing, IsLetValue, IsParameter, IsUse, StandsIn, StandsUpTo, above, argument_bound, bound_of}
 use Rattle.clause_eval.specs.code.Evaluated.{Evaluates}
@@ -331,34 +330,24 @@ module _ (s : State) (whole : IsWhole s) (frame site : ℕ) (capturing : IsCaptu
 
 -- ---- an argument
 
-module _ (s : State) (whole : IsWhole s) (frame index : ℕ) (parameter : IsParameter s frame index) (args : List code.Expr) (are : args_at s.known.file parameter.1 ≡ Some (expr_list (map see_expr args))) where
-  same-args : parameter.3 ≡ expr_list (map see_expr args)
-  same-args = same_Some parameter.3 (expr_list (map see_expr args)) (sym parameter.6 ∙ are)
+module _ (s : State) (whole : IsWhole s) (frame index : ℕ) (parameter : IsParameter s frame index) (caller : ℕ) (x : Expr) (in_caller : parameter.0 ≡ caller) (is_arg : parameter.4 ≡ x) where
+  pub param-arg-stands : StandsIn s caller (expr_sited x)
+  param-arg-stands = subst (λ (n : ℕ). StandsIn s n (expr_sited x)) in_caller (subst (λ (e : Expr). StandsIn s parameter.0 (expr_sited e)) is_arg parameter.8)
 
-  arg-is : expr_in (expr_list (map see_expr args)) index ≡ Some parameter.4
-  arg-is = ap (λ (es : Exprs). expr_in es index) (sym same-args) ∙ parameter.7
+  framed-so : slice_get s.frames frame ≡ Some (record { parent = Some caller; site = parameter.1; current = parameter.2 })
+  framed-so = subst (λ (n : ℕ). slice_get s.frames frame ≡ Some (record { parent = Some n; site = parameter.1; current = parameter.2 })) in_caller parameter.5
 
-  pub param-within : index < length args
-  param-within = expr-counted args index parameter.4 arg-is
+  arg-so : expr_in parameter.3 index ≡ Some x
+  arg-so = parameter.7 ∙ ap Some is_arg
 
-  module _ (x : code.Expr) (is : x ≡ get_or args index x) where
-    same-arg : parameter.4 ≡ see_expr x
-    same-arg = same_Some parameter.4 (see_expr x) (sym arg-is ∙ expr-listed args index x param-within is)
+  bound-told : argument_bound s frame index ≡ above s caller (expr_sited x).0
+  bound-told = argument-bound s frame index caller parameter.1 parameter.2 parameter.3 x framed-so parameter.6 arg-so
 
-    pub param-arg-stands : StandsIn s parameter.0 (expr_sited (see_expr x))
-    param-arg-stands = subst (λ (e : Expr). StandsIn s parameter.0 (expr_sited e)) same-arg parameter.8
+  pub param-arg-rank : (t : ℕ) → argument_bound s frame index * 8 ≡ t → rank_in s caller (expr_sited x).0 5 < t
+  param-arg-rank t owed = let told = bound-told in omega (arith, told, owed)
 
-    bound-told : argument_bound s frame index ≡ above s parameter.0 (expr_sited (see_expr x)).0
-    bound-told =
-        argument-bound s frame index parameter.0 parameter.1 parameter.2 parameter.3 parameter.4 parameter.5 parameter.6 parameter.7
-        ∙ ap (λ (e : Expr). above s parameter.0 (expr_sited e).0) same-arg
-
-    pub param-arg-rank : (t : ℕ) → argument_bound s frame index * 8 ≡ t → rank_in s parameter.0 (expr_sited (see_expr x)).0 5 < t
-    param-arg-rank t owed = let told = bound-told in omega (arith, told, owed)
-
-    pub param-arg-answer : (b : State) (number here : ℕ) → slice_get s.framed frame ≡ Some here → AnswersExpr s b parameter.0 (see_expr x) number
-        → AnswersArgument s b frame (argument_bound s frame index) index number
-    param-arg-answer b number here framed it =
-        subst (λ (n : ℕ). AnswersArgument s b frame n index number) (sym bound-told)
-        (argument-said s b whole frame here parameter.0 parameter.1 number (above s parameter.0 (expr_sited (see_expr x)).0) parameter.2 framed parameter.5 parameter.3 parameter.6 index
-        (see_expr x) (parameter.7 ∙ ap Some same-arg) it)
+  pub param-arg-answer : (b : State) (number here : ℕ) → slice_get s.framed frame ≡ Some here → AnswersExpr s b caller x number
+      → AnswersArgument s b frame (argument_bound s frame index) index number
+  param-arg-answer b number here framed it =
+      subst (λ (n : ℕ). AnswersArgument s b frame n index number) (sym bound-told)
+      (argument-said s b whole frame here caller parameter.1 number (above s caller (expr_sited x).0) parameter.2 framed framed-so parameter.3 parameter.6 index x arg-so it)

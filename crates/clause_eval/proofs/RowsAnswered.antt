@@ -26,7 +26,7 @@ use Rattle.rule_meaning.specs.StoreModel.{is_known}
 use Rattle.rule_meaning.specs.Verdicts.{is_found}
 use Rattle.evidence_rules.specs.CitedLines.{GiveArgs, GivesQuery, GivesStep, last_step}
 use Rattle.clause_eval.specs.code.Adding.{Added, Adds}
-use Rattle.clause_eval.specs.code.Answers.{AnswersArgs, AnswersExpr, AnswersQuery, AnswersRows, AnswersStepAt, AreGiven, IsCall, SaysRows, StandsIn, StandsUpTo, above}
+use Rattle.clause_eval.specs.code.Answers.{AnswersArgs, AnswersExpr, AnswersQuery, AnswersRows, AnswersStepAt, AreGiven, GivesAsked, IsCall, SaysRows, StandsIn, StandsUpTo, above}
 use Rattle.clause_eval.specs.code.Falling.{height_at}
 use Rattle.clause_eval.specs.code.Inside.{IsInside, expr_sited, query_sited}
 use Rattle.clause_eval.specs.code.States.{IsWhole, State}
@@ -101,13 +101,9 @@ module _ (a : State) (whole : IsWhole a) (ordered : AreInOrder a.known.file) (fr
     pub found-stands : StandsIn b frame (site, OfExpr (found site q))
     found-stands = stands-still a whole frame (site, OfExpr (found site q)) stands b (above a frame (query_site q)) (line ∷ []) it.evaluates
 
-    pub found-adds : (said rows : List Row) (cites : List ℕ) → said ≡ it.says.0 → rows ≡ filter is_found said → cites ≡ line ∷ [] → Adds b frame site kind.Found cites (says.Rows rows)
-    found-adds said rows cites says_it kept cited =
-        let rows_are : rows ≡ filter is_found it.says.0 = kept ∙ ap (filter is_found) says_it in
-        let known = query-known b it.evaluates.whole it.at q line it.says.0 it.says.1 in
-        subst (λ (cs : List ℕ). Adds b frame site kind.Found cs (says.Rows rows)) (sym cited)
-        (adds-found b it.evaluates.whole frame it.at site it.framed found-stands.scope_is site q found-stands.there line it.says.0 rows it.says.1 rows_are
-        (ap (list_all (is_known b.known)) rows_are ∙ kept-known (is_known b.known) is_found it.says.0 known))
+    -- what is asked for of the line that is added
+    pub found-asks : GivesAsked b frame site line
+    found-asks = (q, found-stands, it.at, it.framed, it.says.0, it.says.1)
 
     pub found-answer : (c : State) (rows : List Row) (cites : List ℕ) (number : ℕ) → cites ≡ line ∷ [] → Added b c frame site kind.Found cites (says.Rows rows) number
         → AnswersRows a c frame kind.Found site number
@@ -116,6 +112,19 @@ module _ (a : State) (whole : IsWhole a) (ordered : AreInOrder a.known.file) (fr
         rows-told a c frame site number kind.Found rows
         (added-answer a b c whole frame (home_of a.known.file site) (site, OfExpr (found site q)) stands kind.Found cites (says.Rows rows) number (above a frame (query_site q)) (line ∷ []) refl
         (omega (arith, low)) it.evaluates added (all-cited (line ∷ []) cites (length a.lines) added.at cited))
+
+-- the line of `some`, behind that of its query
+module _ (s : State) (whole : IsWhole s) (frame site line : ℕ) (asks : GivesAsked s frame site line) where
+  pub asked-says : SaysRows s.lines line asks.4
+  asked-says = query-says s.known.file s.lines asks.2 asks.0 line asks.4 asks.5
+
+  pub found-adds : (said rows : List Row) (cites : List ℕ) → said ≡ asks.4 → rows ≡ filter is_found said → cites ≡ line ∷ [] → Adds s frame site kind.Found cites (says.Rows rows)
+  found-adds said rows cites says_it kept cited =
+      let rows_are : rows ≡ filter is_found asks.4 = kept ∙ ap (filter is_found) says_it in
+      let known = query-known s whole asks.2 asks.0 line asks.4 asks.5 in
+      subst (λ (cs : List ℕ). Adds s frame site kind.Found cs (says.Rows rows)) (sym cited)
+      (adds-found s whole frame asks.2 site asks.3 asks.1.scope_is site asks.0 asks.1.there line asks.4 rows asks.5 rows_are
+      (ap (list_all (is_known s.known)) rows_are ∙ kept-known (is_known s.known) is_found asks.4 known))
 
 -- ---- calls of functions
 

@@ -17,7 +17,7 @@ use Rattle.evidence_rules.specs.Follows.{Behind, FollowsRowsOf, SayRows, SaysBod
 use Rattle.clause_eval.specs.code.Answers.{Answers}
 use Rattle.clause_eval.specs.code.Evaluated.{Evaluates}
 use Rattle.clause_eval.specs.code.States.{IsWhole, State}
-use Rattle.clause_eval.proofs.Conjoined.{conjunction-more, disjunction-more}
+use Rattle.engine_parts.proofs.Conjoined.{conjunction-more, disjunction-more}
 use Rattle.clause_eval.proofs.InTurn.{SaidFor, said-next}
 use Rattle.clause_eval.proofs.SaidStays.{SayBodies-stays}
 

@@ -3,7 +3,7 @@ use Rattle.std.proofs.Common.{◌≡◌, ℕ, Bool, refl, ap, ◌∙◌, Some}
 use Rattle.std.specs.Prelude.{◌==◌, if◌then◌else◌}
 use Rattle.std.proofs.lemmas.Bool.{eq-eqb, ne_eqb}
 use Rattle.clause_eval.specs.code.Engines.{lines_in}
-use Rattle.clause_eval.specs.declared.site_lines.SiteLines.{SiteLines}
+use Rattle.engine_parts.specs.declared.site_lines.SiteLines.{SiteLines}
 
 -- a table in which a line was set
 pub table-set : (old new : SiteLines) (site number : ℕ) → ((m : ℕ) → lines_in new m ≡ (if m == site then Some number else lines_in old m))

@@ -16,7 +16,7 @@ use Rattle.evidence_rules.specs.Follows.{SayDisjs, SayEach, SayParts, SaysCandid
 use Rattle.clause_eval.specs.code.Answers.{Answers}
 use Rattle.clause_eval.specs.code.Evaluated.{Evaluates}
 use Rattle.clause_eval.specs.code.States.{IsWhole, State}
-use Rattle.clause_eval.proofs.Conjoined.{conjunction-more, disjunction-more}
+use Rattle.engine_parts.proofs.Conjoined.{conjunction-more, disjunction-more}
 use Rattle.clause_eval.proofs.InTurn.{SaidFor, said-next}
 use Rattle.clause_eval.proofs.SaidInOrder.{Undecided, Undecided-push, disjs-all, disjs-ended, disjs-push, each-push, parts-all, parts-ended, parts-push}
 use Rattle.clause_eval.proofs.SaidStays.{SayCandidates-stays, SayDisjs-stays, SayParts-stays}

@@ -7,8 +7,6 @@ pub mod Entered
 pub mod Environments
 pub mod Evaluated
 pub mod Falling
-pub mod FoundLines
-pub mod FrameLines
 pub mod Inside
 pub mod Kinds
 pub mod Leaning

@@ -24,10 +24,10 @@ ghost use Rattle.clause_eval.specs.code.Kinds.{own_kind};
 ghost use Rattle.clause_eval.specs.code.States.{IsWhole};
 
 use crate::engine::Engine;
-use crate::judging::{is_set_test, refer_to, site_of, verdict_of_set, verdict_of_test};
 use crate::place::Place;
 use crate::said::{Cited, Judged, Said};
 use crate::steps::SitedStep;
+use engine_parts::judging::{is_set_test, refer_to, site_of, verdict_of_set, verdict_of_test};
 use evidence_lines::{LineKind, Outcome, Rows};
 use guard_syntax::{Body, Part, Row, Verdict};
 use query_steps::{RowTest, StepContext, StepInput, captured, kinds, placed_step};
@@ -293,8 +293,23 @@ impl<'t, 's> Engine<'t, 's> {
     }
 }
 
+/// The lines that are cited, behind one more.
+pub(crate) fn behind(alloc: Global, first: u64, lines: Vec<u64>) -> Result<Vec<u64>, AllocError>
+    ensures { IfOk result (λ all. all.items ≡ first ∷ lines.items) }
+{
+    let mut all = Vec::new(alloc);
+    all.push(first)?;
+    let mut rest = lines;
+    all.append(&mut rest)?;
+    Ok(all)
+}
+
 /// The lines that are cited, of two that may not be there.
-fn cited(alloc: Global, first: Option<u64>, second: Option<u64>) -> Result<Vec<u64>, AllocError>
+pub(crate) fn cited(
+    alloc: Global,
+    first: Option<u64>,
+    second: Option<u64>,
+) -> Result<Vec<u64>, AllocError>
     ensures { IfOk result (λ cites. cites.items ≡ both_cites first second) }
 {
     let mut cites = Vec::new(alloc);

@@ -8,9 +8,9 @@ ghost use Rattle.clause_eval.specs.code.Ruling.{Rests};
 ghost use Rattle.clause_eval.specs.code.States.{IsWhole};
 
 use crate::engine::Engine;
-use crate::frame_lines::FrameLines;
-use crate::site_lines::SiteLines;
 use doc_values::Doc;
+use engine_parts::frame_lines::FrameLines;
+use engine_parts::site_lines::SiteLines;
 use evidence_lines::{Evidence, Version};
 use indexmap::IndexMap;
 use rule_names::RuleFile;

@@ -10,9 +10,10 @@ ghost use Rattle.clause_eval.specs.code.Answers.{AnswersBodies, AnswersBody, Ans
 ghost use Rattle.clause_eval.specs.code.Engines.{see_engine};
 ghost use Rattle.clause_eval.specs.code.States.{IsWhole};
 
+use crate::adds::{behind, cited};
 use crate::engine::Engine;
-use crate::judging::{exchange, is_decided, is_pass, joined};
 use crate::said::{Cited, Said};
+use engine_parts::judging::{exchange, is_decided, is_pass, joined};
 use evidence_lines::LineKind;
 use guard_syntax::{Body, Conds, Expr, Part, Query, Ref, Row, Verdict};
 use std::alloc::AllocError;
@@ -62,8 +63,7 @@ impl<'t, 's> Engine<'t, 's> {
         let current = self.current(frame);
         let inner = self.enter_scope(Some(frame), site, current)?;
         let said = self.conjunction(inner, body.site, &body.parts, None)?;
-        let mut lines = Vec::new(self.alloc);
-        lines.push(said.line)?;
+        let lines = cited(self.alloc, Some(said.line), None)?;
         let verdict = exchange(not, said.verdict);
         self.add_verdict(frame, site, LineKind::Call, Cited { lines, verdict })
     }
@@ -83,17 +83,19 @@ impl<'t, 's> Engine<'t, 's> {
         ensures { IfOk result (λ said. AnswersVerdict (see_engine self.old) (see_engine self.new) frame kind.When site said.line said.verdict) }
     {
         let conditions = self.conditions(frame, cond)?;
-        let mut lines = Vec::new(self.alloc);
-        lines.push(conditions.line)?;
         if !is_pass(conditions.verdict) {
+            let lines = cited(self.alloc, Some(conditions.line), None)?;
             let verdict = Verdict::Skip;
             return self.add_verdict(frame, site, LineKind::When, Cited { lines, verdict });
         }
         let current = self.current(frame);
         let said = self.body_at(frame, body, current)?;
-        lines.push(said.line)?;
-        let verdict = said.verdict;
-        self.add_verdict(frame, site, LineKind::When, Cited { lines, verdict })
+        let cites = cited(self.alloc, Some(conditions.line), Some(said.line))?;
+        let when = Cited {
+            lines: cites,
+            verdict: said.verdict,
+        };
+        self.add_verdict(frame, site, LineKind::When, when)
     }
 
     /// The line of a block, which has none yet.
@@ -110,12 +112,10 @@ impl<'t, 's> Engine<'t, 's> {
         ensures { IfOk result (λ said. AnswersVerdict (see_engine self.old) (see_engine self.new) frame kind.Block head.entry.site said.line said.verdict) }
     {
         let line = self.query(frame, head.query)?;
-        let mut lines = Vec::new(self.alloc);
-        lines.push(line)?;
         let rows = self.rows_said(line).to_vec(self.alloc)?;
-        let mut cited = self.bodies(frame, head.any, body, &rows)?;
-        lines.append(&mut cited.lines)?;
+        let cited = self.bodies(frame, head.any, body, &rows)?;
         let verdict = cited.verdict;
+        let lines = behind(self.alloc, line, cited.lines)?;
         self.add_verdict(frame, head.site, LineKind::Block, Cited { lines, verdict })
     }
 
@@ -138,16 +138,19 @@ impl<'t, 's> Engine<'t, 's> {
             return self.add_verdict(frame, site, LineKind::Kinds, cited);
         };
         let conditions = self.conditions(frame, cond)?;
-        let mut lines = Vec::new(self.alloc);
-        lines.push(conditions.line)?;
         if !is_pass(conditions.verdict) {
+            let lines = cited(self.alloc, Some(conditions.line), None)?;
             let verdict = Verdict::Skip;
             return self.add_verdict(frame, site, LineKind::Kinds, Cited { lines, verdict });
         }
-        let mut cited = self.typed(frame, site, body)?;
-        lines.append(&mut cited.lines)?;
-        let verdict = cited.verdict;
-        self.add_verdict(frame, site, LineKind::Kinds, Cited { lines, verdict })
+        let typed = self.typed(frame, site, body)?;
+        let verdict = typed.verdict;
+        let cites = behind(self.alloc, conditions.line, typed.lines)?;
+        let kinds = Cited {
+            lines: cites,
+            verdict,
+        };
+        self.add_verdict(frame, site, LineKind::Kinds, kinds)
     }
 
     /// The lines of what a type block guards: of its rows, and of its body on them.
@@ -158,12 +161,10 @@ impl<'t, 's> Engine<'t, 's> {
         ensures { IfOk result (λ cited. AnswersTyped (see_engine self.old) (see_engine self.new) frame site (see_body body.now) cited.lines.items cited.verdict) }
     {
         let line = self.types(frame, site)?;
-        let mut lines = Vec::new(self.alloc);
-        lines.push(line)?;
         let rows = self.rows_said(line).to_vec(self.alloc)?;
-        let mut cited = self.bodies(frame, false, body, &rows)?;
-        lines.append(&mut cited.lines)?;
+        let cited = self.bodies(frame, false, body, &rows)?;
         let verdict = cited.verdict;
+        let lines = behind(self.alloc, line, cited.lines)?;
         Ok(Cited { lines, verdict })
     }
 

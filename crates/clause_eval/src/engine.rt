@@ -6,9 +6,9 @@ ghost use Rattle.value_compare.specs.code.Books.{IsBookOf};
 ghost use Rattle.value_compare.specs.code.Stores.{see_store};
 ghost use Rattle.clause_eval.specs.code.States.{StillFollows};
 
-use crate::frame_lines::FrameLines;
 use crate::place::Place;
-use crate::site_lines::SiteLines;
+use engine_parts::frame_lines::FrameLines;
+use engine_parts::site_lines::SiteLines;
 use evidence_lines::Evidence;
 use indexmap::IndexMap;
 use rule_names::RuleFile;

@@ -1,12 +1,16 @@
 //! Lines of what variables mean.
-ghost use Rattle.std.specs.Prelude.{◌≡◌, IfOk};
-ghost use Rattle.clause_eval.specs.code.Answers.{AnswersArgument, AnswersCapture, AnswersPiece, AnswersVariable, IsCapturing, IsLetValue, IsParameter, IsUse, argument_bound};
+ghost use Rattle.std.specs.Prelude.{◌≡◌, ℕ, IfOk};
+ghost use Rattle.guard_syntax.specs.Syntax as syntax;
+ghost use Rattle.guard_syntax.specs.code.Seen.{see_expr};
+ghost use Rattle.rule_names.specs.code.Files.{file_of};
+ghost use Rattle.clause_eval.specs.code.Answers.{AnswersArgument, AnswersCapture, AnswersPiece, AnswersVariable, IsArgumentOf, IsCapturing, IsLetValue, IsParameter, IsUse, argument_bound};
 ghost use Rattle.clause_eval.specs.code.Engines.{see_engine};
 ghost use Rattle.clause_eval.specs.code.States.{IsWhole};
 
 use crate::engine::Engine;
-use guard_syntax::Part;
-use rule_names::{Bind, Piece};
+use guard_syntax::{Expr, Part};
+use rule_names::{Bind, Piece, RuleFile};
+use scope_frames::Frame;
 use std::alloc::AllocError;
 
 impl<'t, 's> Engine<'t, 's> {
@@ -76,24 +80,38 @@ impl<'t, 's> Engine<'t, 's> {
         requires stands { IsParameter (see_engine self.old) frame index }
         ensures { IfOk result (λ number. AnswersArgument (see_engine self.old) (see_engine self.new) frame (argument_bound (see_engine self.old) frame index) index number) }
     {
-        let entered = self.frames.entered.as_slice()[frame as usize];
-        let Some(caller) = entered.parent else {
-            unreachable!()
-        };
-        let file = self.file;
-        let Some(piece) = file.find(entered.site) else {
-            unreachable!()
-        };
-        let Piece::Part(part) = piece else {
-            unreachable!()
-        };
-        match part {
-            Part::Call { args, .. } => self.expression(caller, &args[index as usize]),
-            Part::Block { .. } => unreachable!(),
-            Part::When { .. } => unreachable!(),
-            Part::Kinds { .. } => unreachable!(),
-            Part::Test { .. } => unreachable!(),
-            Part::Refer { .. } => unreachable!(),
-        }
+        let entered = self.frames.entered.as_slice();
+        let (caller, expr) = argument_given(self.file, entered, frame, index);
+        self.expression(caller, expr)
+    }
+}
+
+/// The argument of an index of the call that a frame is of, behind the frame in which the call stands.
+fn argument_given<'t>(
+    file: &'t RuleFile,
+    entered: &[Frame],
+    frame: u64,
+    index: u32,
+) -> (u64, &'t Expr)
+    requires { (caller : ℕ) × (e : syntax.Expr) × IsArgumentOf (file_of file.now) entered.now frame index caller e }
+    ensures { (caller : ℕ) (e : syntax.Expr) → IsArgumentOf (file_of file.entry.now) entered.now frame index caller e → (caller ≡ result.0) × (e ≡ see_expr result.1.now) }
+{
+    let called = entered[frame as usize];
+    let Some(caller) = called.parent else {
+        unreachable!()
+    };
+    let Some(piece) = file.find(called.site) else {
+        unreachable!()
+    };
+    let Piece::Part(part) = piece else {
+        unreachable!()
+    };
+    match part {
+        Part::Call { args, .. } => (caller, &args[index as usize]),
+        Part::Block { .. } => unreachable!(),
+        Part::When { .. } => unreachable!(),
+        Part::Kinds { .. } => unreachable!(),
+        Part::Test { .. } => unreachable!(),
+        Part::Refer { .. } => unreachable!(),
     }
 }

@@ -1,18 +1,21 @@
 //! Lines of rows: of expressions, and of queries.
-ghost use Rattle.std.specs.Prelude.{◌≡◌, ◌<◌, ◌≤◌, ℕ, length, map, suc, IfOk};
+ghost use Rattle.std.specs.Prelude.{◌≡◌, ◌<◌, ◌≤◌, ◌∷◌, ℕ, List, [], None, length, map, suc, IfOk};
 ghost use Rattle.evidence_lines.specs.declared.line.LineKind.TheVariants as kind;
+ghost use Rattle.evidence_lines.specs.declared.line.Outcome.TheVariants as says;
 ghost use Rattle.guard_syntax.specs.code.Seen.{expr_list, see_expr, see_query};
 ghost use Rattle.guard_syntax.specs.Syntax as syntax;
+ghost use Rattle.guard_syntax.specs.declared.row.Row.{Row};
 ghost use Rattle.guard_syntax.specs.declared.syntax.Query.{out-Query};
 ghost use Rattle.rule_names.specs.Pieces.{OfExpr};
-ghost use Rattle.clause_eval.specs.code.Answers.{AnswersArgs, AnswersExpr, AnswersQuery, AnswersRows, AnswersStepAt, GivesStepBefore, IsCall, LacksStep, StandsIn, StandsUpTo};
+ghost use Rattle.clause_eval.specs.code.Adding.{Added};
+ghost use Rattle.clause_eval.specs.code.Answers.{AnswersExpr, AnswersQuery, AnswersRows, AnswersStepAt, GivesAsked, GivesStepBefore, IsCall, LacksStep, StandsIn, StandsUpTo};
 ghost use Rattle.clause_eval.specs.code.Engines.{see_engine};
 ghost use Rattle.clause_eval.specs.code.Inside.{expr_sited, query_sited};
 ghost use Rattle.clause_eval.specs.code.States.{IsWhole};
 
 use crate::engine::Engine;
-use crate::judging::found_rows;
 use crate::place::Place;
+use engine_parts::judging::found_rows;
 use evidence_lines::{LineKind, Outcome, Rows};
 use guard_syntax::{Expr, Query};
 use std::alloc::AllocError;
@@ -44,6 +47,16 @@ impl<'t, 's> Engine<'t, 's> {
             return Ok(line);
         }
         let line = self.query(frame, query)?;
+        self.add_found(frame, site, line)
+    }
+
+    /// Adds the line of `some` and a query, behind the line of the query.
+    fn add_found(&mut self, frame: u64, site: u32, line: u64) -> Result<u64, AllocError>
+        requires whole { IsWhole (see_engine self.old) }
+        requires query { GivesAsked (see_engine self.old) frame site line }
+        requires new { (see_engine self.old).parts frame site ≡ None }
+        ensures { IfOk result (λ number. (rows : List Row) × Added (see_engine self.old) (see_engine self.new) frame site kind.Found (line ∷ []) (says.Rows rows) number) }
+    {
         let rows = {
             let said = self.rows_said(line).gather(self.alloc)?;
             found_rows(self.alloc, said.as_slice())?
@@ -58,7 +71,7 @@ impl<'t, 's> Engine<'t, 's> {
         )
     }
 
-    /// The line of the call of a function.
+    /// The line of the call of a function, behind those of its arguments.
     #[cycle(evaluation)]
     fn function(&mut self, frame: u64, site: u32, args: &'t [Expr]) -> Result<u64, AllocError>
         requires whole { IsWhole (see_engine self.old) }
@@ -68,22 +81,11 @@ impl<'t, 's> Engine<'t, 's> {
         if let Some(line) = self.found(frame, site) {
             return Ok(line);
         }
-        let cites = self.arguments(frame, site, args)?;
-        self.add_call(frame, site, cites)
-    }
-
-    /// The lines of the arguments of a call, in order.
-    #[cycle(evaluation)]
-    fn arguments(&mut self, frame: u64, site: u32, args: &'t [Expr]) -> Result<Vec<u64>, AllocError>
-        requires whole { IsWhole (see_engine self.old) }
-        requires stands { IsCall (see_engine self.old) frame site (expr_list (map see_expr args.now)) }
-        ensures { IfOk result (λ lines. AnswersArgs (see_engine self.old) (see_engine self.new) frame site (expr_list (map see_expr args.now)) lines.items) }
-    {
-        let mut lines = Vec::new(self.alloc);
+        let mut cites = Vec::new(self.alloc);
         for arg in args {
-            lines.push(self.expression(frame, arg)?)?;
+            cites.push(self.expression(frame, arg)?)?;
         }
-        Ok(lines)
+        self.add_call(frame, site, cites)
     }
 
     /// The line of the last step of a query.

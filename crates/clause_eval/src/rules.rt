@@ -7,8 +7,8 @@ ghost use Rattle.clause_eval.specs.code.Ruling.{IsFileFrame, IsReady, Judges, Ma
 ghost use Rattle.clause_eval.specs.code.States.{IsWhole};
 
 use crate::engine::Engine;
-use crate::judging::is_pass;
 use crate::said::Cited;
+use engine_parts::judging::is_pass;
 use guard_syntax::{Rule, Verdict};
 use std::alloc::AllocError;
 

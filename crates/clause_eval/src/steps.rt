@@ -3,19 +3,21 @@ ghost use Rattle.std.specs.Prelude.{◌≡◌, ◌<◌, ℕ, length, IfOk, None,
 ghost use Rattle.std.specs.List.{list_all};
 ghost use Rattle.guard_syntax.specs.code.Seen.{see_conds, see_query};
 ghost use Rattle.guard_syntax.specs.declared.syntax.Query.{out-Query};
-ghost use Rattle.query_steps.specs.code.Placed.{see_place};
+ghost use Rattle.query_steps.specs.code.Placed.{FiltersAt, candidates_of_place, see_place};
 ghost use Rattle.rule_meaning.specs.Places.{step_at};
-ghost use Rattle.rule_meaning.specs.StoreModel.{is_known_ref};
+ghost use Rattle.rule_meaning.specs.StoreModel.{is_known, is_known_ref};
+ghost use Rattle.value_compare.specs.code.Stores.{see_store};
 ghost use Rattle.clause_eval.specs.code.Answers.{AnswersCandidates, AnswersFilter, AnswersStepBehind, GivesBeforeSite, GivesStepBefore, IsFilterWith, LacksStep, StandsUpTo};
 ghost use Rattle.clause_eval.specs.code.Engines.{see_engine};
 ghost use Rattle.clause_eval.specs.code.States.{IsWhole};
 
 use crate::engine::Engine;
 use crate::said::Judged;
-use evidence_lines::LineKind;
+use evidence_lines::{LineKind, Rows};
 use guard_syntax::{Conds, Query, Ref, StepForm};
 use query_steps::{StepPlace, placed_candidates};
-use std::alloc::AllocError;
+use std::alloc::{AllocError, Global};
+use value_compare::Store;
 
 /// A step in a frame: its site, and where it stands in its query.
 #[derive(Clone, Copy)]
@@ -85,10 +87,8 @@ impl<'t, 's> Engine<'t, 's> {
         requires place { step_at (see_engine self.old).known.file step.site ≡ see_place step.place }
         ensures { IfOk result (λ number. AnswersFilter (see_engine self.old) (see_engine self.new) step.entry.frame step.entry.site before number) }
     {
-        let tried = {
-            let said = self.rows_said(before).gather(self.alloc)?;
-            placed_candidates(self.alloc, step.place, said.as_slice(), &self.store)?
-        };
+        let said = self.rows_said(before);
+        let tried = candidates(self.alloc, step.place, said, &self.store)?;
         let judged = self.judge_candidates(step.frame, step.site, conds, &tried)?;
         self.add_filter(step, before, judged)
     }
@@ -107,14 +107,28 @@ impl<'t, 's> Engine<'t, 's> {
         requires known { list_all (is_known_ref (see_engine self.old).known) tried.now ≡ true }
         ensures { IfOk result (λ judged. AnswersCandidates (see_engine self.old) (see_engine self.new) frame site (see_conds conds.now) tried.now judged.lines.items judged.verdicts.items) }
     {
-        let mut lines = Vec::new(self.alloc);
-        let mut verdicts = Vec::new(self.alloc);
+        let mut judged = Judged::new(self.alloc);
         for candidate in tried {
             let inner = self.enter_scope(Some(frame), site, *candidate)?;
             let said = self.conditions(inner, conds)?;
-            lines.push(said.line)?;
-            verdicts.push(said.verdict)?;
+            judged.note(said)?;
         }
-        Ok(Judged { lines, verdicts })
+        Ok(judged)
     }
+}
+
+/// The candidates of a filter, by its place and the rows that the line before it says.
+fn candidates(
+    alloc: Global,
+    place: StepPlace<'_>,
+    before: Rows<'_>,
+    store: &Store<'_, '_>,
+) -> Result<Vec<Ref>, AllocError>
+    requires filter { FiltersAt (see_place place) }
+    requires known { list_all (is_known (see_store store.now)) before ≡ true }
+    ensures candidates { IfOk result (λ refs. refs.items ≡ candidates_of_place (see_store store.now) (see_place place.entry) before.entry) }
+    ensures known { IfOk result (λ refs. list_all (is_known_ref (see_store store.now)) refs.items ≡ true) }
+{
+    let rows = before.gather(alloc)?;
+    placed_candidates(alloc, place, rows.as_slice(), store)
 }

@@ -13,8 +13,8 @@ ghost use Rattle.clause_eval.specs.code.States.{IsWhole};
 
 use crate::blocks::BlockHead;
 use crate::engine::Engine;
-use crate::judging::{both, either, is_stop, site_of};
 use crate::said::{Cited, Said};
+use engine_parts::judging::{both, either, is_stop, site_of};
 use evidence_lines::LineKind;
 use guard_syntax::{Conds, Disj, Part, Verdict};
 use std::alloc::AllocError;

@@ -1,29 +1,19 @@
 //! Block sequences and block mappings: one entry or node at a time, what it adds to the tree, and what may follow it.
-ghost use Rattle.std.specs.Prelude.{◌≡◌, ℕ, List, ◌+◌, ◌*◌, ◌≤◌, length, true, false, None, Some, IfOk};
+ghost use Rattle.std.specs.Prelude.{◌≡◌, ℕ, List, ◌+◌, ◌*◌, ◌≤◌, length, true, false, None, IfOk};
 ghost use Rattle.std.specs.Str.{IsCharBoundary};
 ghost use Rattle.yaml_scalars.specs.code.Limits.{text_limit};
 ghost use Rattle.yaml_grammar.specs.Ahead.{ahead};
-ghost use Rattle.yaml_grammar.specs.Nodes.{starts_scalar, is_tagged, setting_of};
-ghost use Rattle.yaml_grammar.specs.Blocks.{block_sign, takes_scalar, takes_mapping, takes_sequence, takes_tag, tagged, column_in};
-ghost use Rattle.yaml_grammar.specs.code.ReadAgain.{NoneBehind, OnSign, SignStays};
-ghost use Rattle.yaml_grammar.specs.code.Rest.{top, Inside, Ends, Awaits};
+ghost use Rattle.yaml_grammar.specs.Nodes.{starts_scalar, is_tagged};
+ghost use Rattle.yaml_grammar.specs.Blocks.{block_sign, takes_scalar, takes_mapping, takes_sequence, takes_tag, tagged};
+ghost use Rattle.yaml_grammar.specs.code.Reads.{LineRead, ScalarRead, ValueRead};
+ghost use Rattle.yaml_grammar.specs.code.StepReads.{EndRead};
+ghost use Rattle.yaml_grammar.specs.code.Rest.{top, Ends};
 ghost use Rattle.yaml_grammar.specs.Yaml.{IsEnd, text_start};
-ghost use Rattle.yaml_grammar.specs.code.Extends.{ExtendsValue, Leaves};
-ghost use Rattle.yaml_grammar.specs.code.Feeds.{Opening};
-ghost use Rattle.yaml_grammar.specs.code.Splits.{InRoom, RunsOn};
-ghost use Rattle.yaml_grammar.specs.code.Twins.{Stops, NoLine, NoValue, Lengthens, LengthensAt, OnUnread, Popped, FixesNode, FixesEnd};
-ghost use Rattle.yaml_grammar.specs.code.Steps.{stack, IsSeen, IsBlock, HasKey, NoKey, EndsKey, Open, Fits, Awaited, SameKey, SameNode, SameEnd, IsCalm, NoNode, Gives, Ended, is_ending, ends_before};
+ghost use Rattle.yaml_grammar.specs.code.Twins.{Popped};
+ghost use Rattle.yaml_grammar.specs.code.Steps.{stack, IsSeen, IsBlock, HasKey, NoKey, EndsKey, Open, Fits, Awaited, IsCalm, NoNode, Gives, Ended, is_ending, ends_before};
 
-use crate::ahead::look;
 use crate::flow::open;
-use crate::form::{Site, is_entry_column};
-use crate::node::{
-    TagMap, as_key, begin, begin_tag, colon_behind, find_key, find_scalar, innermost, offset,
-    starts_scalar, take_block_scalar, take_null,
-};
-use crate::place::{colon_place, dash_place, last_told, root_place};
 use crate::point::is_pointed;
-use crate::sign::{end_sign, is_document_end, is_tagged, node_sign};
 use crate::split::{is_split, split_stop};
 use crate::takes::{
     block_sign, column_in, ends_before, tagged, takes_mapping, takes_scalar, takes_sequence,
@@ -32,6 +22,14 @@ use crate::takes::{
 use doc_values::DocBuilder;
 use std::alloc::Global;
 use yaml_grammar::{Ahead, Form, Key, Position, Stage, Stop, Token};
+use yaml_nodes::ahead::look;
+use yaml_nodes::form::{Site, is_entry_column};
+use yaml_nodes::node::{
+    TagMap, as_key, begin, begin_tag, colon_behind, find_key, find_scalar, innermost, offset,
+    starts_scalar, take_block_scalar, take_null,
+};
+use yaml_nodes::place::{colon_place, dash_place, last_told, root_place};
+use yaml_nodes::sign::{end_sign, is_document_end, is_tagged, node_sign};
 use yaml_scalars::Scalar;
 
 /// A sequence begins at a `-`.
@@ -44,12 +42,7 @@ fn sequence(
     requires awaited { Awaited text.now (stack forms.old.items) builder.old site.form site.at site.next }
     requires dash { site.next.token ≡ Token.Dash }
     requires takes { takes_sequence site.form site.next ≡ true }
-    ensures gives { (other : List ℕ) → Awaited other (stack forms.old.items) builder.old site.form site.at site.next → SameNode text.now other site.form site.at site.next → Gives other (Awaits other (stack forms.old.items) builder.old.outer builder.old.done builder.old.key site.at) (2 * site.at + 1) (stack forms.new.items) builder.new result }
-    ensures fixes { FixesNode text.now site.form site.at site.next result }
-    ensures opens { Opening (stack forms.new.items) result }
-    ensures stops { Stops text.now site.at (NoValue site.at site.next site.form (stack forms.old.items) builder.old) result }
-    ensures longer { Lengthens text.now Stage.Value (stack forms.old.items) builder.old site.at result }
-    ensures extends { ExtendsValue text.now (stack forms.old.items) builder.old site.at (stack forms.new.items) builder.new result }
+    ensures { ValueRead text.now site.form site.at site.next (stack forms.old.items) builder.old (stack forms.new.items) builder.new result }
 {
     let column = column_in(site.form, site.next);
     match begin(Form::Items { column }, site.next, forms, builder) {
@@ -73,13 +66,7 @@ fn mapping<'s>(
     requires key { HasKey text.now site.next key }
     requires takes { takes_mapping site.form site.next ≡ true }
     requires ends { EndsKey text.now site.next }
-    ensures gives { (other : List ℕ) → Awaited other (stack forms.old.items) builder.old site.form site.at site.next → SameNode text.now other site.form site.at site.next → Gives other (Awaits other (stack forms.old.items) builder.old.outer builder.old.done builder.old.key site.at) (2 * site.at + 1) (stack forms.new.items) builder.new result }
-    ensures fixes { FixesNode text.now site.form site.at site.next result }
-    ensures opens { Opening (stack forms.new.items) result }
-    ensures stops { Stops text.now site.at (NoValue site.at site.next site.form (stack forms.old.items) builder.old) result }
-    ensures longer { Lengthens text.now Stage.Value (stack forms.old.items) builder.old site.at result }
-    ensures extends { ExtendsValue text.now (stack forms.old.items) builder.old site.at (stack forms.new.items) builder.new result }
-    ensures again { starts_scalar site.next.token ≡ true → SignStays text.now Stage.Value (stack forms.old.items) builder.old site.at result }
+    ensures { ValueRead text.now site.form site.at site.next (stack forms.old.items) builder.old (stack forms.new.items) builder.new result }
 {
     let Key { text: name, behind } = key;
     let column = column_in(site.form, site.next);
@@ -106,12 +93,7 @@ fn tag<'s>(
     requires awaited { Awaited text.now (stack forms.old.items) builder.old site.form site.at site.next }
     requires tag { (len : ℕ) × (site.next.token ≡ Token.Tag len) }
     requires takes { takes_tag site.form site.next ≡ true }
-    ensures gives { (other : List ℕ) → Awaited other (stack forms.old.items) builder.old site.form site.at site.next → SameNode text.now other site.form site.at site.next → Gives other (Awaits other (stack forms.old.items) builder.old.outer builder.old.done builder.old.key site.at) (2 * site.at + 1) (stack forms.new.items) builder.new result }
-    ensures fixes { FixesNode text.now site.form site.at site.next result }
-    ensures opens { Opening (stack forms.new.items) result }
-    ensures stops { Stops text.now site.at (NoValue site.at site.next site.form (stack forms.old.items) builder.old) result }
-    ensures longer { Lengthens text.now Stage.Value (stack forms.old.items) builder.old site.at result }
-    ensures extends { ExtendsValue text.now (stack forms.old.items) builder.old site.at (stack forms.new.items) builder.new result }
+    ensures { ValueRead text.now site.form site.at site.next (stack forms.old.items) builder.old (stack forms.new.items) builder.new result }
 {
     let map = TagMap {
         form: tagged(site.form, site.next),
@@ -125,22 +107,14 @@ fn scalar_there<'s>(
     alloc: Global,
     text: &'s str,
     site: Site,
-    forms: &[Form],
     builder: &mut DocBuilder<'s>,
 ) -> Result<Position, Stop>
     requires small { length text.now ≤ text_limit }
-    requires awaited { Awaited text.now (stack forms.now) builder.old site.form site.at site.next }
+    requires awaited { (fs : List Form) × Awaited text.now fs builder.old site.form site.at site.next }
     requires starts { starts_scalar site.next.token ≡ true }
     requires takes { takes_scalar site.form site.next ≡ true }
     requires no_key { takes_mapping site.form site.next ≡ true → NoKey text.now site.next }
-    ensures gives { (other : List ℕ) → Awaited other (stack forms.now) builder.old site.form site.at site.next → SameNode text.now other site.form site.at site.next → Gives other (Awaits other (stack forms.now) builder.old.outer builder.old.done builder.old.key site.at) (2 * site.at + 1) (stack forms.now) builder.new result }
-    ensures fixes { FixesNode text.now site.form site.at site.next result }
-    ensures opens { Opening (stack forms.now) result }
-    ensures stops { Stops text.now site.at (NoValue site.at site.next site.form (stack forms.now) builder.old) result }
-    ensures longer { OnUnread (InRoom text.now builder.old site.form site.at site.next (LengthensAt text.now Stage.Value (stack forms.now) builder.old site.at)) result }
-    ensures runs { OnUnread (RunsOn text.now false (setting_of site.form) site.next) result }
-    ensures extends { ExtendsValue text.now (stack forms.now) builder.old site.at (stack forms.now) builder.new result }
-    ensures again { starts_scalar site.next.token ≡ true → SignStays text.now Stage.Value (stack forms.now) builder.old site.at result }
+    ensures { (fs : List Form) → Awaited text.now fs builder.old site.form site.at site.next → ScalarRead text.now site.form site.at site.next fs builder.old builder.new result }
 {
     let position = match take_block_scalar(alloc, text, site, builder) {
         Ok(position) => position,
@@ -157,24 +131,17 @@ fn scalar<'s>(
     alloc: Global,
     text: &'s str,
     site: Site,
-    forms: &[Form],
     builder: &mut DocBuilder<'s>,
 ) -> Result<Position, Stop>
     requires small { length text.now ≤ text_limit }
-    requires awaited { Awaited text.now (stack forms.now) builder.old site.form site.at site.next }
+    requires awaited { (fs : List Form) × Awaited text.now fs builder.old site.form site.at site.next }
     requires starts { starts_scalar site.next.token ≡ true }
     requires takes { takes_scalar site.form site.next ≡ true }
     requires no_key { takes_mapping site.form site.next ≡ true → NoKey text.now site.next }
-    ensures gives { (other : List ℕ) → Awaited other (stack forms.now) builder.old site.form site.at site.next → SameNode text.now other site.form site.at site.next → Gives other (Awaits other (stack forms.now) builder.old.outer builder.old.done builder.old.key site.at) (2 * site.at + 1) (stack forms.now) builder.new result }
-    ensures fixes { FixesNode text.now site.form site.at site.next result }
-    ensures opens { Opening (stack forms.now) result }
-    ensures stops { Stops text.now site.at (NoValue site.at site.next site.form (stack forms.now) builder.old) result }
-    ensures longer { Lengthens text.now Stage.Value (stack forms.now) builder.old site.at result }
-    ensures extends { ExtendsValue text.now (stack forms.now) builder.old site.at (stack forms.now) builder.new result }
-    ensures again { starts_scalar site.next.token ≡ true → SignStays text.now Stage.Value (stack forms.now) builder.old site.at result }
+    ensures { (fs : List Form) → Awaited text.now fs builder.old site.form site.at site.next → ValueRead text.now site.form site.at site.next fs builder.old fs builder.new result }
 {
     let depth = builder.depth();
-    match scalar_there(alloc, text, site, forms, builder) {
+    match scalar_there(alloc, text, site, builder) {
         Ok(position) => Ok(position),
         Err(stop) => {
             let split = is_split(text, site.at, site.form, site.next, depth);
@@ -195,44 +162,27 @@ fn content<'s>(
     requires awaited { Awaited text.now (stack forms.old.items) builder.old site.form site.at site.next }
     requires starts { starts_scalar site.next.token ≡ true }
     requires takes { takes_scalar site.form site.next ≡ true }
-    ensures gives { (other : List ℕ) → Awaited other (stack forms.old.items) builder.old site.form site.at site.next → SameNode text.now other site.form site.at site.next → Gives other (Awaits other (stack forms.old.items) builder.old.outer builder.old.done builder.old.key site.at) (2 * site.at + 1) (stack forms.new.items) builder.new result }
-    ensures fixes { FixesNode text.now site.form site.at site.next result }
-    ensures opens { Opening (stack forms.new.items) result }
-    ensures stops { Stops text.now site.at (NoValue site.at site.next site.form (stack forms.old.items) builder.old) result }
-    ensures longer { Lengthens text.now Stage.Value (stack forms.old.items) builder.old site.at result }
-    ensures extends { ExtendsValue text.now (stack forms.old.items) builder.old site.at (stack forms.new.items) builder.new result }
-    ensures again { starts_scalar site.next.token ≡ true → SignStays text.now Stage.Value (stack forms.old.items) builder.old site.at result }
+    ensures { ValueRead text.now site.form site.at site.next (stack forms.old.items) builder.old (stack forms.new.items) builder.new result }
 {
     if !takes_mapping(site.form, site.next) {
-        return scalar(alloc, text, site, forms, builder);
+        return scalar(alloc, text, site, builder);
     }
     match find_key(alloc, text, site.next) {
         Err(refusal) => Err(refusal),
-        Ok(None) => scalar(alloc, text, site, forms, builder),
+        Ok(None) => scalar(alloc, text, site, builder),
         Ok(Some(key)) => mapping(text, site, key, forms, builder),
     }
 }
 
 /// No node stands there: it is null, but for the root.
-fn missing(
-    text: &str,
-    site: Site,
-    forms: &[Form],
-    builder: &mut DocBuilder,
-) -> Result<Position, Stop>
+fn missing(text: &str, site: Site, builder: &mut DocBuilder) -> Result<Position, Stop>
     requires small { length text.now ≤ text_limit }
-    requires awaited { Awaited text.now (stack forms.now) builder.old site.form site.at site.next }
+    requires awaited { (fs : List Form) × Awaited text.now fs builder.old site.form site.at site.next }
     requires none { NoNode site.form site.next }
     requires unsigned { block_sign site.form site.next ≡ None }
     requires once { is_tagged site.form ≡ true → (len : ℕ) → site.next.token ≡ Token.Tag len → ⊥ }
     requires late { site.next.token ≡ Token.Dash → takes_scalar site.form site.next ≡ false }
-    ensures gives { (other : List ℕ) → Awaited other (stack forms.now) builder.old site.form site.at site.next → SameNode text.now other site.form site.at site.next → Gives other (Awaits other (stack forms.now) builder.old.outer builder.old.done builder.old.key site.at) (2 * site.at + 1) (stack forms.now) builder.new result }
-    ensures fixes { FixesNode text.now site.form site.at site.next result }
-    ensures opens { Opening (stack forms.now) result }
-    ensures stops { Stops text.now site.at (NoValue site.at site.next site.form (stack forms.now) builder.old) result }
-    ensures longer { Lengthens text.now Stage.Value (stack forms.now) builder.old site.at result }
-    ensures extends { ExtendsValue text.now (stack forms.now) builder.old site.at (stack forms.now) builder.new result }
-    ensures again { starts_scalar site.next.token ≡ true → SignStays text.now Stage.Value (stack forms.now) builder.old site.at result }
+    ensures { (fs : List Form) → Awaited text.now fs builder.old site.form site.at site.next → ValueRead text.now site.form site.at site.next fs builder.old fs builder.new result }
 {
     match site.form {
         Form::Root => Err(Stop::Unread(last_told(text, site.next))),
@@ -254,12 +204,7 @@ fn tag_again(
     requires tagged { is_tagged site.form ≡ true }
     requires none { NoNode site.form site.next }
     requires unsigned { block_sign site.form site.next ≡ None }
-    ensures gives { (other : List ℕ) → Awaited other (stack forms.old.items) builder.old site.form site.at site.next → SameNode text.now other site.form site.at site.next → Gives other (Awaits other (stack forms.old.items) builder.old.outer builder.old.done builder.old.key site.at) (2 * site.at + 1) (stack forms.new.items) builder.new result }
-    ensures fixes { FixesNode text.now site.form site.at site.next result }
-    ensures opens { Opening (stack forms.new.items) result }
-    ensures stops { Stops text.now site.at (NoValue site.at site.next site.form (stack forms.old.items) builder.old) result }
-    ensures longer { Lengthens text.now Stage.Value (stack forms.old.items) builder.old site.at result }
-    ensures extends { ExtendsValue text.now (stack forms.old.items) builder.old site.at (stack forms.new.items) builder.new result }
+    ensures { ValueRead text.now site.form site.at site.next (stack forms.old.items) builder.old (stack forms.new.items) builder.new result }
 {
     match take_null(site.at, site.at, builder) {
         Err(refusal) => return Err(refusal),
@@ -288,43 +233,28 @@ fn late_tag(
     requires tag { site.next.token ≡ Token.Tag len }
     requires none { NoNode site.form site.next }
     requires unsigned { block_sign site.form site.next ≡ None }
-    ensures gives { (other : List ℕ) → Awaited other (stack forms.old.items) builder.old site.form site.at site.next → SameNode text.now other site.form site.at site.next → Gives other (Awaits other (stack forms.old.items) builder.old.outer builder.old.done builder.old.key site.at) (2 * site.at + 1) (stack forms.new.items) builder.new result }
-    ensures fixes { FixesNode text.now site.form site.at site.next result }
-    ensures opens { Opening (stack forms.new.items) result }
-    ensures stops { Stops text.now site.at (NoValue site.at site.next site.form (stack forms.old.items) builder.old) result }
-    ensures longer { Lengthens text.now Stage.Value (stack forms.old.items) builder.old site.at result }
-    ensures extends { ExtendsValue text.now (stack forms.old.items) builder.old site.at (stack forms.new.items) builder.new result }
+    ensures { ValueRead text.now site.form site.at site.next (stack forms.old.items) builder.old (stack forms.new.items) builder.new result }
 {
     if is_tagged(site.form) {
         tag_again(text, site, len, forms, builder)
     } else {
-        missing(text, site, forms, builder)
+        missing(text, site, builder)
     }
 }
 
 /// A `-` where no sequence may begin: on the line of a key or a tag nothing may follow it.
-fn late_dash(
-    text: &str,
-    site: Site,
-    forms: &[Form],
-    builder: &mut DocBuilder,
-) -> Result<Position, Stop>
+fn late_dash(text: &str, site: Site, builder: &mut DocBuilder) -> Result<Position, Stop>
     requires small { length text.now ≤ text_limit }
-    requires awaited { Awaited text.now (stack forms.now) builder.old site.form site.at site.next }
+    requires awaited { (fs : List Form) × Awaited text.now fs builder.old site.form site.at site.next }
     requires dash { site.next.token ≡ Token.Dash }
     requires none { NoNode site.form site.next }
     requires unsigned { block_sign site.form site.next ≡ None }
-    ensures gives { (other : List ℕ) → Awaited other (stack forms.now) builder.old site.form site.at site.next → SameNode text.now other site.form site.at site.next → Gives other (Awaits other (stack forms.now) builder.old.outer builder.old.done builder.old.key site.at) (2 * site.at + 1) (stack forms.now) builder.new result }
-    ensures fixes { FixesNode text.now site.form site.at site.next result }
-    ensures opens { Opening (stack forms.now) result }
-    ensures stops { Stops text.now site.at (NoValue site.at site.next site.form (stack forms.now) builder.old) result }
-    ensures longer { Lengthens text.now Stage.Value (stack forms.now) builder.old site.at result }
-    ensures extends { ExtendsValue text.now (stack forms.now) builder.old site.at (stack forms.now) builder.new result }
+    ensures { (fs : List Form) → Awaited text.now fs builder.old site.form site.at site.next → ValueRead text.now site.form site.at site.next fs builder.old fs builder.new result }
 {
     if takes_scalar(site.form, site.next) {
         return Err(Stop::Unread(dash_place(text, site.next)));
     }
-    missing(text, site, forms, builder)
+    missing(text, site, builder)
 }
 
 /// A flow collection begins.
@@ -338,12 +268,7 @@ fn brackets(
     requires awaited { Awaited text.now (stack forms.old.items) builder.old site.form site.at site.next }
     requires opens { site.next.token ≡ Token.Opens map }
     requires takes { takes_scalar site.form site.next ≡ true }
-    ensures gives { (other : List ℕ) → Awaited other (stack forms.old.items) builder.old site.form site.at site.next → SameNode text.now other site.form site.at site.next → Gives other (Awaits other (stack forms.old.items) builder.old.outer builder.old.done builder.old.key site.at) (2 * site.at + 1) (stack forms.new.items) builder.new result }
-    ensures fixes { FixesNode text.now site.form site.at site.next result }
-    ensures opens { Opening (stack forms.new.items) result }
-    ensures stops { Stops text.now site.at (NoValue site.at site.next site.form (stack forms.old.items) builder.old) result }
-    ensures longer { Lengthens text.now Stage.Value (stack forms.old.items) builder.old site.at result }
-    ensures extends { ExtendsValue text.now (stack forms.old.items) builder.old site.at (stack forms.new.items) builder.new result }
+    ensures { ValueRead text.now site.form site.at site.next (stack forms.old.items) builder.old (stack forms.new.items) builder.new result }
 {
     open(map, site.next, forms, builder)
 }
@@ -359,20 +284,14 @@ fn node_at<'s>(
     requires small { length text.now ≤ text_limit }
     requires awaited { Awaited text.now (stack forms.old.items) builder.old site.form site.at site.next }
     requires unsigned { block_sign site.form site.next ≡ None }
-    ensures gives { (other : List ℕ) → Awaited other (stack forms.old.items) builder.old site.form site.at site.next → SameNode text.now other site.form site.at site.next → Gives other (Awaits other (stack forms.old.items) builder.old.outer builder.old.done builder.old.key site.at) (2 * site.at + 1) (stack forms.new.items) builder.new result }
-    ensures fixes { FixesNode text.now site.form site.at site.next result }
-    ensures opens { Opening (stack forms.new.items) result }
-    ensures stops { Stops text.now site.at (NoValue site.at site.next site.form (stack forms.old.items) builder.old) result }
-    ensures longer { Lengthens text.now Stage.Value (stack forms.old.items) builder.old site.at result }
-    ensures extends { ExtendsValue text.now (stack forms.old.items) builder.old site.at (stack forms.new.items) builder.new result }
-    ensures again { starts_scalar site.next.token ≡ true → SignStays text.now Stage.Value (stack forms.old.items) builder.old site.at result }
+    ensures { ValueRead text.now site.form site.at site.next (stack forms.old.items) builder.old (stack forms.new.items) builder.new result }
 {
     match site.next.token {
         Token::Dash => {
             if takes_sequence(site.form, site.next) {
                 sequence(text, site, forms, builder)
             } else {
-                late_dash(text, site, forms, builder)
+                late_dash(text, site, builder)
             }
         }
         Token::Tag { len } => {
@@ -386,17 +305,17 @@ fn node_at<'s>(
             if takes_scalar(site.form, site.next) {
                 brackets(text, site, map, forms, builder)
             } else {
-                missing(text, site, forms, builder)
+                missing(text, site, builder)
             }
         }
         Token::Other | Token::Point { .. } => {
             if takes_scalar(site.form, site.next) {
                 content(alloc, text, site, forms, builder)
             } else {
-                missing(text, site, forms, builder)
+                missing(text, site, builder)
             }
         }
-        _ => missing(text, site, forms, builder),
+        _ => missing(text, site, builder),
     }
 }
 
@@ -414,13 +333,7 @@ pub(crate) fn node<'s>(
     requires form { top (stack forms.old.items) ≡ site.form }
     requires block { IsBlock site.form }
     requires fits { Fits text.now Stage.Value (stack forms.old.items) builder.old site.at }
-    ensures gives { (other : List ℕ) → Awaited other (stack forms.old.items) builder.old site.form site.at (ahead text.now false site.at) → SameNode text.now other site.form site.at (ahead text.now false site.at) → Gives other (Awaits other (stack forms.old.items) builder.old.outer builder.old.done builder.old.key site.at) (2 * site.at + 1) (stack forms.new.items) builder.new result }
-    ensures fixes { FixesNode text.now site.form site.at (ahead text.now false site.at) result }
-    ensures opens { Opening (stack forms.new.items) result }
-    ensures stops { Stops text.now site.at (NoValue site.at (ahead text.now false site.at) site.form (stack forms.old.items) builder.old) result }
-    ensures longer { Lengthens text.now Stage.Value (stack forms.old.items) builder.old site.at result }
-    ensures extends { ExtendsValue text.now (stack forms.old.items) builder.old site.at (stack forms.new.items) builder.new result }
-    ensures again { starts_scalar (ahead text.now false site.at).token ≡ true → SignStays text.now Stage.Value (stack forms.old.items) builder.old site.at result }
+    ensures { ValueRead text.now site.form site.at (ahead text.now false site.at) (stack forms.old.items) builder.old (stack forms.new.items) builder.new result }
 {
     match block_sign(site.form, site.next) {
         Some(refusal) => Err(refusal),
@@ -457,13 +370,7 @@ fn item(text: &str, site: Site, forms: &[Form], builder: &DocBuilder) -> Result<
     requires open { Open (stack forms.now) builder.now }
     requires awaited { builder.now.key ≡ None }
     requires boundary { IsCharBoundary text.now site.at }
-    ensures gives { (other : List ℕ) → IsSeen other false site.at site.next → Inside other site.at → Gives other (Ends other (stack forms.now) builder.now.outer builder.now.done site.at) (2 * site.at + 2) (stack forms.now) builder.now result }
-    ensures fixes { (text : List ℕ) → IsSeen text false site.at site.next → IsCharBoundary text site.at → FixesEnd text site.at site.next result }
-    ensures opens { Opening (stack forms.now) result }
-    ensures stops { Stops text.now site.at (NoLine site.at site.next (stack forms.now) builder.now) result }
-    ensures longer { Lengthens text.now Stage.After (stack forms.now) builder.now site.at result }
-    ensures leaves { Leaves result }
-    ensures again { starts_scalar site.next.token ≡ true → OnSign (NoneBehind text.now (stack forms.now) builder.now site.at) result }
+    ensures { LineRead text.now site.at site.next (stack forms.now) builder.now (stack forms.now) builder.now result }
 {
     match site.next.token {
         Token::Dash => Ok(Position {
@@ -491,13 +398,7 @@ fn entry<'s>(
     requires awaited { builder.old.key ≡ None }
     requires boundary { IsCharBoundary text.now site.at }
     requires behind { text_start text.now ≤ site.at }
-    ensures gives { (other : List ℕ) → IsSeen other false site.at site.next → Inside other site.at → IsCalm other builder.old site.at → SameKey text.now other site.next → Gives other (Ends other (stack forms.now) builder.old.outer builder.old.done site.at) (2 * site.at + 2) (stack forms.now) builder.new result }
-    ensures fixes { FixesEnd text.now site.at site.next result }
-    ensures opens { Opening (stack forms.now) result }
-    ensures stops { Stops text.now site.at (NoLine site.at site.next (stack forms.now) builder.old) result }
-    ensures longer { Lengthens text.now Stage.After (stack forms.now) builder.old site.at result }
-    ensures leaves { Leaves result }
-    ensures again { starts_scalar site.next.token ≡ true → OnSign (NoneBehind text.now (stack forms.now) builder.old site.at) result }
+    ensures { LineRead text.now site.at site.next (stack forms.now) builder.old (stack forms.now) builder.new result }
 {
     match node_sign(false, site.next) {
         Some(refusal) => return Err(refusal),
@@ -547,13 +448,7 @@ fn head<'s>(
     requires awaited { builder.old.key ≡ None }
     requires boundary { IsCharBoundary text.now site.at }
     requires behind { text_start text.now ≤ site.at }
-    ensures gives { (other : List ℕ) → IsSeen other false site.at site.next → Inside other site.at → IsCalm other builder.old site.at → SameKey text.now other site.next → Gives other (Ends other (stack forms.now) builder.old.outer builder.old.done site.at) (2 * site.at + 2) (stack forms.now) builder.new result }
-    ensures fixes { FixesEnd text.now site.at site.next result }
-    ensures opens { Opening (stack forms.now) result }
-    ensures stops { Stops text.now site.at (NoLine site.at site.next (stack forms.now) builder.old) result }
-    ensures longer { Lengthens text.now Stage.After (stack forms.now) builder.old site.at result }
-    ensures leaves { Leaves result }
-    ensures again { starts_scalar site.next.token ≡ true → OnSign (NoneBehind text.now (stack forms.now) builder.old site.at) result }
+    ensures { LineRead text.now site.at site.next (stack forms.now) builder.old (stack forms.now) builder.new result }
 {
     match site.form {
         Form::Items { column } => {
@@ -592,13 +487,7 @@ fn line<'s>(
     requires awaited { builder.old.key ≡ None }
     requires boundary { IsCharBoundary text.now site.at }
     requires behind { text_start text.now ≤ site.at }
-    ensures gives { (other : List ℕ) → IsSeen other false site.at site.next → Inside other site.at → IsCalm other builder.old site.at → SameKey text.now other site.next → Gives other (Ends other (stack forms.old.items) builder.old.outer builder.old.done site.at) (2 * site.at + 2) (stack forms.new.items) builder.new result }
-    ensures fixes { FixesEnd text.now site.at site.next result }
-    ensures opens { Opening (stack forms.new.items) result }
-    ensures stops { Stops text.now site.at (NoLine site.at site.next (stack forms.old.items) builder.old) result }
-    ensures longer { Lengthens text.now Stage.After (stack forms.old.items) builder.old site.at result }
-    ensures leaves { Leaves result }
-    ensures again { starts_scalar site.next.token ≡ true → OnSign (NoneBehind text.now (stack forms.old.items) builder.old site.at) result }
+    ensures { LineRead text.now site.at site.next (stack forms.old.items) builder.old (stack forms.new.items) builder.new result }
 {
     if !site.next.fresh {
         return Err(Stop::Unread(last_told(text, site.next)));
@@ -651,13 +540,7 @@ pub(crate) fn after<'s>(
     requires open { Open (stack forms.old.items) builder.old }
     requires calm { IsCalm text.now builder.old at }
     requires awaited { builder.old.key ≡ None }
-    ensures gives { (other : List ℕ) → SameEnd text.now other at → IsSeen other false at (ahead text.now false at) → IsCharBoundary other at → IsCalm other builder.old at → SameKey text.now other (ahead text.now false at) → Gives other (Ends other (stack forms.old.items) builder.old.outer builder.old.done at) (2 * at + 2) (stack forms.new.items) builder.new result }
-    ensures fixes { FixesEnd text.now at (ahead text.now false at) result }
-    ensures opens { Opening (stack forms.new.items) result }
-    ensures stops { Stops text.now at (NoLine at (ahead text.now false at) (stack forms.old.items) builder.old) result }
-    ensures longer { Lengthens text.now Stage.After (stack forms.old.items) builder.old at result }
-    ensures leaves { Leaves result }
-    ensures again { starts_scalar (ahead text.now false at).token ≡ true → OnSign (NoneBehind text.now (stack forms.old.items) builder.old at) result }
+    ensures { EndRead text.now at (stack forms.old.items) builder.old (stack forms.new.items) builder.new result }
 {
     let next = look(text, false, at);
     if is_document_end(text, at, next) {

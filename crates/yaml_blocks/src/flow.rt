@@ -1,33 +1,28 @@
 //! What stands between brackets: one token at a time, what it adds to the tree, and what may follow it.
-ghost use Rattle.std.specs.Prelude.{◌≡◌, ℕ, List, Bool, ◌+◌, ◌*◌, ◌<◌, ◌≤◌, ◌||◌, length, drop, [], ◌∷◌, true, false, Some, None, MatchOption};
+ghost use Rattle.std.specs.Prelude.{◌≡◌, ℕ, Bool, ◌<◌, ◌≤◌, ◌||◌, length, drop, true, false, None, MatchOption};
 ghost use Rattle.std.specs.Str.{IsCharBoundary};
 ghost use Rattle.yaml_scalars.specs.code.Limits.{text_limit};
 ghost use Rattle.doc_values.specs.Unfinished.{AwaitsValue, MayEnd};
 ghost use Rattle.yaml_scalars.specs.Scalar.{begins_quoted};
 ghost use Rattle.yaml_grammar.specs.Flow.{may_miss, may_tag, ends_key, IsColon};
-ghost use Rattle.yaml_grammar.specs.Ahead.{ahead};
-ghost use Rattle.yaml_grammar.specs.Nodes.{tag_name, node_sign, is_tagged, is_marked, setting_of, starts_scalar};
-ghost use Rattle.yaml_grammar.specs.code.Splits.{InRoom, RunsOn};
-ghost use Rattle.yaml_grammar.specs.code.ReadAgain.{NoneAwaited, OnSign, SignStays};
-ghost use Rattle.yaml_grammar.specs.code.Rest.{top, Ends, Enters, Awaits};
-ghost use Rattle.yaml_grammar.specs.code.Extends.{Shuts};
-ghost use Rattle.yaml_grammar.specs.code.Feeds.{FeedsSeen, FeedsFlowNode, FeedsFlowKey, FeedsEntry};
-ghost use Rattle.yaml_grammar.specs.code.Twins.{Stops, Lengthens, MendsNode, OnUnread, NoTail, NoFlowValue, NoEntry, FixesFlowNode, FixesFlowKey, FixesEntry, FixesSeen};
-ghost use Rattle.yaml_grammar.specs.code.Steps.{stack, has_keys, IsSeen, SameFlowNode, SameFlowKey, IsFlow, IsBehind, Open, Gives, Opened, Closed, is_flow_ending};
+ghost use Rattle.yaml_grammar.specs.Nodes.{node_sign, is_tagged, is_marked, starts_scalar};
+ghost use Rattle.yaml_grammar.specs.code.FlowReads.{EntryRead, FlowNodeRead, FlowScalarRead, FlowValueRead, KeyRead, TailRead};
+ghost use Rattle.yaml_grammar.specs.code.Rest.{top};
+ghost use Rattle.yaml_grammar.specs.code.Steps.{stack, has_keys, IsSeen, IsFlow, IsBehind, Open, Opened, Closed, is_flow_ending};
 
-use crate::ahead::look;
-use crate::form::Site;
-use crate::node::{
-    TagMap, as_key, begin, begin_tag, find_scalar, has_keys, innermost, offset, starts_scalar,
-    take_null, take_scalar,
-};
-use crate::place::flow_place;
 use crate::point::is_pointed;
-use crate::sign::{is_marked, is_tagged, node_sign};
 use crate::split::{is_split, split_stop};
 use doc_values::DocBuilder;
 use std::alloc::Global;
 use yaml_grammar::{Ahead, Form, Position, Stage, Stop, Token};
+use yaml_nodes::ahead::look;
+use yaml_nodes::form::Site;
+use yaml_nodes::node::{
+    TagMap, as_key, begin, begin_tag, find_scalar, has_keys, innermost, offset, starts_scalar,
+    take_null, take_scalar,
+};
+use yaml_nodes::place::flow_place;
+use yaml_nodes::sign::{is_marked, is_tagged, node_sign};
 use yaml_scalars::Scalar;
 
 /// The innermost collection ends.
@@ -94,12 +89,7 @@ fn tag<'s>(
     requires awaited { AwaitsValue builder.old }
     requires boundary { IsCharBoundary text.now site.at }
     requires behind { IsBehind site.form site.at }
-    ensures gives { (other : List ℕ) → IsSeen other true site.at site.next → tag_name other site.next.at site.next.behind ≡ tag_name text.now site.next.at site.next.behind → Gives other (Awaits other (stack forms.old.items) builder.old.outer builder.old.done builder.old.key site.at) (2 * site.at + 2) (stack forms.new.items) builder.new result }
-    ensures fixes { FixesFlowNode text.now site.form site.at site.next result }
-    ensures feeds { FeedsFlowNode text.now site.form site.at site.next result }
-    ensures shuts { Shuts text.now site.at (stack forms.new.items) result }
-    ensures stops { Stops text.now site.at (NoFlowValue site.at site.next (stack forms.old.items) builder.old) result }
-    ensures longer { OnUnread (MendsNode text.now (stack forms.old.items) builder.old site.at) result }
+    ensures { FlowValueRead text.now site.form site.at site.next (stack forms.old.items) builder.old (stack forms.new.items) builder.new result }
 {
     let map = TagMap {
         form: Form::FlowTagged { at: site.next.at },
@@ -127,14 +117,7 @@ fn scalar_there<'s>(
     requires open { Open (stack forms.now) builder.old }
     requires awaited { AwaitsValue builder.old }
     requires boundary { IsCharBoundary text.now site.at }
-    ensures gives { (other : List ℕ) → IsSeen other true site.at site.next → SameFlowNode text.now other site.form site.at site.next → Gives other (Awaits other (stack forms.now) builder.old.outer builder.old.done builder.old.key site.at) (2 * site.at + 2) (stack forms.now) builder.new result }
-    ensures fixes { FixesFlowNode text.now site.form site.at site.next result }
-    ensures feeds { FeedsFlowNode text.now site.form site.at site.next result }
-    ensures stops { Stops text.now site.at (NoFlowValue site.at site.next (stack forms.now) builder.old) result }
-    ensures longer { OnUnread (InRoom text.now builder.old site.form site.at site.next (MendsNode text.now (stack forms.now) builder.old site.at)) result }
-    ensures runs { OnUnread (RunsOn text.now true (setting_of site.form) site.next) result }
-    ensures shuts { Shuts text.now site.at (stack forms.now) result }
-    ensures again { OnSign (NoneAwaited text.now (stack forms.now) builder.old site.at) result }
+    ensures { FlowScalarRead text.now site.form site.at site.next (stack forms.now) builder.old builder.new result }
 {
     let position = match take_scalar(alloc, text, site, builder) {
         Ok(position) => position,
@@ -165,13 +148,7 @@ fn scalar<'s>(
     requires open { Open (stack forms.now) builder.old }
     requires awaited { AwaitsValue builder.old }
     requires boundary { IsCharBoundary text.now site.at }
-    ensures gives { (other : List ℕ) → IsSeen other true site.at site.next → SameFlowNode text.now other site.form site.at site.next → Gives other (Awaits other (stack forms.now) builder.old.outer builder.old.done builder.old.key site.at) (2 * site.at + 2) (stack forms.now) builder.new result }
-    ensures fixes { FixesFlowNode text.now site.form site.at site.next result }
-    ensures feeds { FeedsFlowNode text.now site.form site.at site.next result }
-    ensures stops { Stops text.now site.at (NoFlowValue site.at site.next (stack forms.now) builder.old) result }
-    ensures longer { OnUnread (MendsNode text.now (stack forms.now) builder.old site.at) result }
-    ensures shuts { Shuts text.now site.at (stack forms.now) result }
-    ensures again { OnSign (NoneAwaited text.now (stack forms.now) builder.old site.at) result }
+    ensures { FlowValueRead text.now site.form site.at site.next (stack forms.now) builder.old (stack forms.now) builder.new result }
 {
     let depth = builder.depth();
     match scalar_there(alloc, text, site, forms, builder) {
@@ -200,13 +177,7 @@ fn node<'s>(
     requires open { Open (stack forms.old.items) builder.old }
     requires awaited { AwaitsValue builder.old }
     requires boundary { IsCharBoundary text.now site.at }
-    ensures gives { (other : List ℕ) → IsSeen other true site.at site.next → SameFlowNode text.now other site.form site.at site.next → Gives other (Awaits other (stack forms.old.items) builder.old.outer builder.old.done builder.old.key site.at) (2 * site.at + 2) (stack forms.new.items) builder.new result }
-    ensures fixes { FixesFlowNode text.now site.form site.at site.next result }
-    ensures feeds { FeedsFlowNode text.now site.form site.at site.next result }
-    ensures shuts { Shuts text.now site.at (stack forms.new.items) result }
-    ensures stops { Stops text.now site.at (NoFlowValue site.at site.next (stack forms.old.items) builder.old) result }
-    ensures longer { OnUnread (MendsNode text.now (stack forms.old.items) builder.old site.at) result }
-    ensures again { starts_scalar site.next.token ≡ true → OnSign (NoneAwaited text.now (stack forms.old.items) builder.old site.at) result }
+    ensures { FlowValueRead text.now site.form site.at site.next (stack forms.old.items) builder.old (stack forms.new.items) builder.new result }
 {
     match node_sign(is_tagged(site.form), site.next) {
         Some(refusal) => return Err(refusal),
@@ -300,13 +271,7 @@ fn key<'s>(
     requires open { Open (stack forms.now) builder.old }
     requires awaited { builder.old.key ≡ None }
     requires boundary { IsCharBoundary text.now site.at }
-    ensures gives { (other : List ℕ) → IsSeen other true site.at site.next → SameFlowKey text.now other site.next → Gives other (Enters other (stack forms.now) builder.old.outer builder.old.done site.at) (2 * site.at + 2) (stack forms.now) builder.new result }
-    ensures fixes { FixesFlowKey text.now site.at site.next result }
-    ensures feeds { FeedsFlowKey text.now site.at site.next result }
-    ensures shuts { Shuts text.now site.at (stack forms.now) result }
-    ensures stops { Stops text.now site.at (NoEntry site.at site.next (stack forms.now) builder.old) result }
-    ensures longer { Lengthens text.now Stage.Entry (stack forms.now) builder.old site.at result }
-    ensures again { starts_scalar site.next.token ≡ true → SignStays text.now Stage.Entry (stack forms.now) builder.old site.at result }
+    ensures { KeyRead text.now site.at site.next (stack forms.now) builder.old (stack forms.now) builder.new result }
 {
     match node_sign(false, site.next) {
         Some(refusal) => return Err(refusal),
@@ -352,13 +317,7 @@ pub(crate) fn entry<'s>(
     requires flow { site.form ≡ Form.Flow (has_keys site.form) }
     requires open { Open (stack forms.old.items) builder.old }
     requires awaited { builder.old.key ≡ None }
-    ensures gives { (other : List ℕ) → IsSeen other true site.at (ahead text.now true site.at) → (has_keys site.form ≡ true → SameFlowKey text.now other (ahead text.now true site.at)) → (has_keys site.form ≡ false → SameFlowNode text.now other (Form.Flow false) site.at (ahead text.now true site.at)) → Gives other (Enters other (stack forms.old.items) builder.old.outer builder.old.done site.at) (2 * site.at + 2) (stack forms.new.items) builder.new result }
-    ensures fixes { FixesEntry text.now (has_keys site.form) site.at (ahead text.now true site.at) result }
-    ensures feeds { FeedsEntry text.now (has_keys site.form) site.at (ahead text.now true site.at) result }
-    ensures shuts { Shuts text.now site.at (stack forms.new.items) result }
-    ensures stops { Stops text.now site.at (NoEntry site.at (ahead text.now true site.at) (stack forms.old.items) builder.old) result }
-    ensures longer { Lengthens text.now Stage.Entry (stack forms.old.items) builder.old site.at result }
-    ensures again { starts_scalar (ahead text.now true site.at).token ≡ true → SignStays text.now Stage.Entry (stack forms.old.items) builder.old site.at result }
+    ensures { EntryRead text.now site.form site.at (stack forms.old.items) builder.old (stack forms.new.items) builder.new result }
 {
     let map = has_keys(site.form);
     if closes(site.next.token, map) {
@@ -391,13 +350,7 @@ pub(crate) fn value<'s>(
     requires misses { may_miss site.form ≡ true }
     requires open { Open (stack forms.old.items) builder.old }
     requires awaited { AwaitsValue builder.old }
-    ensures gives { (other : List ℕ) → IsSeen other true site.at (ahead text.now true site.at) → IsCharBoundary other site.at → SameFlowNode text.now other site.form site.at (ahead text.now true site.at) → Gives other (Awaits other (stack forms.old.items) builder.old.outer builder.old.done builder.old.key site.at) (2 * site.at + 1) (stack forms.new.items) builder.new result }
-    ensures fixes { FixesFlowNode text.now site.form site.at (ahead text.now true site.at) result }
-    ensures feeds { FeedsFlowNode text.now site.form site.at (ahead text.now true site.at) result }
-    ensures shuts { Shuts text.now site.at (stack forms.new.items) result }
-    ensures stops { Stops text.now site.at (NoFlowValue site.at (ahead text.now true site.at) (stack forms.old.items) builder.old) result }
-    ensures longer { Lengthens text.now Stage.Value (stack forms.old.items) builder.old site.at result }
-    ensures again { starts_scalar (ahead text.now true site.at).token ≡ true → OnSign (NoneAwaited text.now (stack forms.old.items) builder.old site.at) result }
+    ensures { FlowNodeRead text.now site.form site.at (stack forms.old.items) builder.old (stack forms.new.items) builder.new result }
 {
     if is_flow_ending(site.next.token) {
         return take_null(site.at, site.at, builder);
@@ -418,12 +371,7 @@ pub(crate) fn after(
     requires form { top (stack forms.old.items) ≡ Form.Flow map }
     requires open { Open (stack forms.old.items) builder.old }
     requires awaited { builder.old.key ≡ None }
-    ensures gives { (other : List ℕ) → IsSeen other true at (ahead text.now true at) → Gives other (Ends other (stack forms.old.items) builder.old.outer builder.old.done at) (2 * at + 2) (stack forms.new.items) builder.new result }
-    ensures fixes { FixesSeen text.now at result }
-    ensures feeds { FeedsSeen text.now at result }
-    ensures shuts { Shuts text.now at (stack forms.new.items) result }
-    ensures stops { Stops text.now at (NoTail at (ahead text.now true at) (stack forms.old.items) builder.old) result }
-    ensures longer { Lengthens text.now Stage.After (stack forms.old.items) builder.old at result }
+    ensures { TailRead text.now at (stack forms.old.items) builder.old (stack forms.new.items) builder.new result }
 {
     let next = look(text, true, at);
     if closes(next.token, map) {
@@ -454,12 +402,7 @@ pub(crate) fn after_tag(
     requires form { top (stack forms.old.items) ≡ Form.FlowTagged place }
     requires open { Open (stack forms.old.items) builder.old }
     requires awaited { builder.old.key ≡ None }
-    ensures gives { (other : List ℕ) → IsSeen other true at (ahead text.now true at) → Gives other (Ends other (stack forms.old.items) builder.old.outer builder.old.done at) (2 * at + 2) (stack forms.new.items) builder.new result }
-    ensures fixes { FixesSeen text.now at result }
-    ensures feeds { FeedsSeen text.now at result }
-    ensures shuts { Shuts text.now at (stack forms.new.items) result }
-    ensures stops { Stops text.now at (NoTail at (ahead text.now true at) (stack forms.old.items) builder.old) result }
-    ensures longer { Lengthens text.now Stage.After (stack forms.old.items) builder.old at result }
+    ensures { TailRead text.now at (stack forms.old.items) builder.old (stack forms.new.items) builder.new result }
 {
     let Some(_) = forms.pop() else { unreachable!() };
     match builder.end() {

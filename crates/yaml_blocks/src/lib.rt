@@ -5,18 +5,12 @@
 #![tactic(auto)]
 
 mod agreement;
-mod ahead;
 mod block;
-mod breaking;
 mod ending;
 mod flow;
-mod form;
-mod node;
-mod place;
 mod point;
 mod read;
 mod returned;
-mod sign;
 mod split;
 mod step;
 mod takes;

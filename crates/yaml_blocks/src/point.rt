@@ -5,9 +5,9 @@ ghost use Rattle.yaml_scalars.specs.code.Limits.{text_limit};
 ghost use Rattle.yaml_scalars.specs.Lines.{begins_break, is_white};
 ghost use Rattle.yaml_grammar.specs.code.Points.{gap, is_plain, is_last_point, is_pointed};
 
-use crate::ahead::look;
-use crate::place::has_byte;
 use yaml_grammar::{Ahead, Token};
+use yaml_nodes::ahead::look;
+use yaml_nodes::place::has_byte;
 
 /// Whether white space stands at a place, or a break begins there.
 fn is_gap(bytes: &[u8], at: usize) -> bool

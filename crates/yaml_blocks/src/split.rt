@@ -7,9 +7,9 @@ ghost use Rattle.yaml_grammar.specs.Nodes.{setting_of};
 ghost use Rattle.yaml_grammar.specs.code.Splits.{shows_dot, has_dot, is_split, split_place, split_stop};
 ghost use Rattle.yaml_grammar.specs.code.Steps.{IsBehind};
 
-use crate::node::follows_get_att;
-use crate::place::{begins_block, has_byte, within};
 use yaml_grammar::{Ahead, Form, Stop};
+use yaml_nodes::node::follows_get_att;
+use yaml_nodes::place::{begins_block, has_byte, within};
 
 /// How many collections may stand in each other.
 const DEPTH: u32 = 128;

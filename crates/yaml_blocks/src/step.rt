@@ -1,29 +1,25 @@
 //! One token of a document at a time, by where reading stands.
-ghost use Rattle.std.specs.Prelude.{ℕ, List, ◌≡◌, ◌≤◌, ◌*◌, ◌+◌, length, [], false, true, IfOk};
+ghost use Rattle.std.specs.Prelude.{◌≡◌, ◌≤◌, length, [], false, true, IfOk};
 ghost use Rattle.std.specs.Result.{IfErr};
-ghost use Rattle.std.specs.Str.{IsCharBoundary, IsUtf8};
+ghost use Rattle.std.specs.Str.{IsCharBoundary};
 ghost use Rattle.yaml_scalars.specs.code.Limits.{text_limit};
 ghost use Rattle.doc_values.specs.Unfinished.{start};
 ghost use Rattle.yaml_grammar.specs.Ahead.{ahead};
-ghost use Rattle.yaml_grammar.specs.Nodes.{starts_scalar};
-ghost use Rattle.yaml_grammar.specs.code.Closers.{in_flow};
-ghost use Rattle.yaml_grammar.specs.code.ReadAgain.{SignStays};
-ghost use Rattle.yaml_grammar.specs.code.Rest.{top, Ends, Enters, Awaits, Begins};
+ghost use Rattle.yaml_grammar.specs.code.StepReads.{StepRead};
+ghost use Rattle.yaml_grammar.specs.code.Rest.{Begins};
 ghost use Rattle.yaml_grammar.specs.Ahead.{ahead};
-ghost use Rattle.yaml_grammar.specs.code.Extends.{ExtendsStep, ExtendsValue, Leaves, Shuts};
-ghost use Rattle.yaml_grammar.specs.code.Feeds.{FeedsStep};
-ghost use Rattle.yaml_grammar.specs.code.Twins.{StopsStep, Lengthens, FixesStep, FixesRoot};
-ghost use Rattle.yaml_grammar.specs.code.Steps.{stack, IsBlock, IsFlow, Open, Rest, Fits, SameStep, reached, Gives, is_ending};
+ghost use Rattle.yaml_grammar.specs.code.Twins.{FixesRoot};
+ghost use Rattle.yaml_grammar.specs.code.Steps.{stack, IsBlock, IsFlow, Fits, Gives, is_ending};
 ghost use Rattle.yaml_grammar.specs.Yaml.{text_start};
 
-use crate::ahead::look;
-use crate::form::Site;
-use crate::node::{innermost, take_null};
-use crate::sign::is_ending;
 use crate::{block, flow};
 use doc_values::DocBuilder;
 use std::alloc::Global;
 use yaml_grammar::{Form, Position, Stage, Stop};
+use yaml_nodes::ahead::look;
+use yaml_nodes::form::Site;
+use yaml_nodes::node::{innermost, take_null};
+use yaml_nodes::sign::is_ending;
 
 /// An entry between brackets, or the closing one.
 fn entry<'s>(
@@ -36,13 +32,7 @@ fn entry<'s>(
     requires small { length text.now ≤ text_limit }
     requires boundary { IsCharBoundary text.now at }
     requires fits { Fits text.now Stage.Entry (stack forms.old.items) builder.old at }
-    ensures gives { (other : List ℕ) → IsUtf8 other → IsCharBoundary other at → Fits other Stage.Entry (stack forms.old.items) builder.old at → SameStep text.now other Stage.Entry (top (stack forms.old.items)) at → Gives other (Enters other (stack forms.old.items) builder.old.outer builder.old.done at) (2 * at + 2) (stack forms.new.items) builder.new result }
-    ensures fixes { FixesStep text.now Stage.Entry (top (stack forms.old.items)) at result }
-    ensures feeds { FeedsStep text.now Stage.Entry (top (stack forms.old.items)) at (stack forms.new.items) result }
-    ensures stops { StopsStep text.now Stage.Entry (stack forms.old.items) builder.old at result }
-    ensures shuts { Shuts text.now at (stack forms.new.items) result }
-    ensures longer { Lengthens text.now Stage.Entry (stack forms.old.items) builder.old at result }
-    ensures again { starts_scalar (ahead text.now (in_flow (top (stack forms.old.items))) at).token ≡ true → SignStays text.now Stage.Entry (stack forms.old.items) builder.old at result }
+    ensures { StepRead text.now Stage.Entry at (stack forms.old.items) builder.old (stack forms.new.items) builder.new result }
 {
     match innermost(forms) {
         Form::Flow { map } => {
@@ -83,14 +73,7 @@ fn value<'s>(
     requires small { length text.now ≤ text_limit }
     requires boundary { IsCharBoundary text.now at }
     requires fits { Fits text.now Stage.Value (stack forms.old.items) builder.old at }
-    ensures gives { (other : List ℕ) → IsUtf8 other → IsCharBoundary other at → Fits other Stage.Value (stack forms.old.items) builder.old at → SameStep text.now other Stage.Value (top (stack forms.old.items)) at → Gives other (Awaits other (stack forms.old.items) builder.old.outer builder.old.done builder.old.key at) (2 * at + 1) (stack forms.new.items) builder.new result }
-    ensures fixes { FixesStep text.now Stage.Value (top (stack forms.old.items)) at result }
-    ensures feeds { FeedsStep text.now Stage.Value (top (stack forms.old.items)) at (stack forms.new.items) result }
-    ensures stops { StopsStep text.now Stage.Value (stack forms.old.items) builder.old at result }
-    ensures shuts { IsFlow (top (stack forms.old.items)) → Shuts text.now at (stack forms.new.items) result }
-    ensures longer { Lengthens text.now Stage.Value (stack forms.old.items) builder.old at result }
-    ensures extends { IsBlock (top (stack forms.old.items)) → ExtendsValue text.now (stack forms.old.items) builder.old at (stack forms.new.items) builder.new result }
-    ensures again { starts_scalar (ahead text.now (in_flow (top (stack forms.old.items))) at).token ≡ true → SignStays text.now Stage.Value (stack forms.old.items) builder.old at result }
+    ensures { StepRead text.now Stage.Value at (stack forms.old.items) builder.old (stack forms.new.items) builder.new result }
 {
     let form = innermost(forms);
     if is_flow(form) {
@@ -113,14 +96,7 @@ fn after<'s>(
     requires boundary { IsCharBoundary text.now at }
     requires behind { text_start text.now ≤ at }
     requires fits { Fits text.now Stage.After (stack forms.old.items) builder.old at }
-    ensures gives { (other : List ℕ) → IsUtf8 other → IsCharBoundary other at → Fits other Stage.After (stack forms.old.items) builder.old at → SameStep text.now other Stage.After (top (stack forms.old.items)) at → Gives other (Ends other (stack forms.old.items) builder.old.outer builder.old.done at) (2 * at + 2) (stack forms.new.items) builder.new result }
-    ensures fixes { FixesStep text.now Stage.After (top (stack forms.old.items)) at result }
-    ensures feeds { FeedsStep text.now Stage.After (top (stack forms.old.items)) at (stack forms.new.items) result }
-    ensures stops { StopsStep text.now Stage.After (stack forms.old.items) builder.old at result }
-    ensures shuts { IsFlow (top (stack forms.old.items)) → Shuts text.now at (stack forms.new.items) result }
-    ensures longer { Lengthens text.now Stage.After (stack forms.old.items) builder.old at result }
-    ensures leaves { IsBlock (top (stack forms.old.items)) → Leaves result }
-    ensures again { starts_scalar (ahead text.now (in_flow (top (stack forms.old.items))) at).token ≡ true → SignStays text.now Stage.After (stack forms.old.items) builder.old at result }
+    ensures { StepRead text.now Stage.After at (stack forms.old.items) builder.old (stack forms.new.items) builder.new result }
 {
     match innermost(forms) {
         Form::Flow { map } => flow::after(text, at, map, forms, builder),
@@ -142,13 +118,7 @@ pub(crate) fn step<'s>(
     requires behind { text_start text.now ≤ position.at }
     requires open { position.stage ≡ Stage.Whole → ⊥ }
     requires fits { Fits text.now position.stage (stack forms.old.items) builder.old position.at }
-    ensures gives { (other : List ℕ) → IsUtf8 other → IsCharBoundary other position.at → Fits other position.stage (stack forms.old.items) builder.old position.at → SameStep text.now other position.stage (top (stack forms.old.items)) position.at → Gives other (Rest other position.stage (stack forms.old.items) builder.old position.at) (reached position.stage position.at) (stack forms.new.items) builder.new result }
-    ensures fixes { FixesStep text.now position.stage (top (stack forms.old.items)) position.at result }
-    ensures feeds { FeedsStep text.now position.stage (top (stack forms.old.items)) position.at (stack forms.new.items) result }
-    ensures stops { StopsStep text.now position.stage (stack forms.old.items) builder.old position.at result }
-    ensures longer { Lengthens text.now position.stage (stack forms.old.items) builder.old position.at result }
-    ensures extends { ExtendsStep text.now position.stage (stack forms.old.items) builder.old position.at (stack forms.new.items) builder.new result }
-    ensures again { starts_scalar (ahead text.now (in_flow (top (stack forms.old.items))) position.at).token ≡ true → SignStays text.now position.stage (stack forms.old.items) builder.old position.at result }
+    ensures { StepRead text.now position.stage position.at (stack forms.old.items) builder.old (stack forms.new.items) builder.new result }
 {
     match position.stage {
         Stage::Entry => entry(alloc, text, position.at, forms, builder),

@@ -5,9 +5,9 @@ ghost use Rattle.yaml_grammar.specs.Blocks.{block_sign, takes_scalar, takes_mapp
 ghost use Rattle.yaml_grammar.specs.code.Refused.{of_sign};
 ghost use Rattle.yaml_grammar.specs.code.Steps.{IsSmall, ends_before};
 
-use crate::place::is_dash;
-use crate::sign::{is_tagged, node_sign};
 use yaml_grammar::{Ahead, Form, Stop};
+use yaml_nodes::place::is_dash;
+use yaml_nodes::sign::{is_tagged, node_sign};
 
 /// Whether a scalar or a flow collection may begin at a token.
 pub(crate) fn takes_scalar(form: Form, next: Ahead) -> bool

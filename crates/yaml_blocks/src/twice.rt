@@ -13,13 +13,13 @@ ghost use Rattle.yaml_grammar.specs.code.Places.{IsSyntaxStop};
 ghost use Rattle.yaml_grammar.specs.code.ReadAgain.{SaysAgain};
 ghost use Rattle.yaml_grammar.specs.code.Refused.{IsStopped};
 
-use crate::ahead::{bytes_ahead, look};
-use crate::node::offset;
 use crate::read::{document_start, read_document, text_start};
 use crate::returned::returned_place;
 use doc_values::Doc;
 use std::alloc::{AllocError, Global};
 use yaml_grammar::{Stop, Token};
+use yaml_nodes::ahead::{bytes_ahead, look};
+use yaml_nodes::node::offset;
 
 /// Whether a carriage return ends a text.
 fn ends_in_return(bytes: &[u8]) -> bool

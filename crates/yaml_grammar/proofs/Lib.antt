@@ -48,7 +48,6 @@ pub mod Lettered
 pub mod Quiet
 pub mod Refusals
 pub mod Rests
-pub mod SameForms
 pub mod SameTexts
 pub mod RootLonger
 pub mod RootRuns
@@ -115,3 +114,4 @@ pub mod FirstMarks
 pub mod Runs
 pub mod SplitAhead
 pub mod SplitGaps
+pub mod ValueReads

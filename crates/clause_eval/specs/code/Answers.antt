@@ -7,7 +7,7 @@ use Rattle.evidence_lines.specs.declared.line.LineKind.TheVariants as kind
 use Rattle.evidence_lines.specs.declared.line.Outcome.TheVariants as says
 use Rattle.evidence_lines.specs.declared.version.Version.TheVariants.{Two}
 use Rattle.guard_syntax.specs.Named.{Named}
-use Rattle.guard_syntax.specs.Syntax.{Body, Conds, Disj, Disjs, Expr, Exprs, File, OptConds, OptExpr, Part, Parts, Query, Rule, Step, block, body, call, conds, disj, filter, function, guarded, kinds, no_expr, refer, splice, test, var, with_expr}
+use Rattle.guard_syntax.specs.Syntax.{Body, Conds, Disj, Disjs, Expr, Exprs, File, OptConds, OptExpr, Part, Parts, Query, Rule, Step, block, body, call, conds, disj, filter, found, function, guarded, kinds, no_expr, refer, splice, test, var, with_expr}
 use Rattle.guard_syntax.specs.declared.function.Function.{Function}
 use Rattle.guard_syntax.specs.declared.syntax.Op.{Op}
 use Rattle.guard_syntax.specs.declared.row.Ref.{Ref}
@@ -183,6 +183,12 @@ IsParameter s frame index =
     (parent site : ℕ) × (current : Ref) × (es : Exprs) × (e : Expr) × (slice_get s.frames frame ≡ Some (record { parent = Some parent; site = site; current = current }))
     × (args_at s.known.file site ≡ Some es) × (expr_in es index ≡ Some e) × StandsIn s parent (expr_sited e)
 
+-- the argument of an index of the call that a frame is of, which stands in the frame of its caller
+abbrev pub IsArgumentOf : File → List Frame → (frame index : ℕ) → (caller : ℕ) → Expr → Type 0
+IsArgumentOf f frames frame index caller e =
+    (site : ℕ) × (current : Ref) × (es : Exprs) × (slice_get frames frame ≡ Some (record { parent = Some caller; site = site; current = current })) × (args_at f site ≡ Some es)
+    × (expr_in es index ≡ Some e)
+
 -- the bound of the argument of an index in the frame of a call: that of its expression, in the frame in which the call stands
 abbrev pub bound_of : State → (parent : Option ℕ) → Option Expr → ℕ
 bound_of s (Some parent) (Some e) = above s parent (expr_sited e).0
@@ -207,6 +213,11 @@ abbrev pub GivesStepAt : State → (frame site : ℕ) → (number : ℕ) → Typ
 GivesStepAt s frame site c =
     (q : Query) × (i : ℕ) × (p : Step) × (piece_at s.known.file site ≡ Some (OfStep q i)) × (step_in (steps_in q) i ≡ Some p) × (at : ℕ) × (slice_get s.framed frame ≡ Some at)
     × (rows : List Row) × GivesStep s.known.file s.lines at p c rows
+
+-- that of a query of which `some` stands at a site: it gives rows
+abbrev pub GivesAsked : State → (frame site : ℕ) → (number : ℕ) → Type 0
+GivesAsked s frame site c =
+    (q : Query) × StandsIn s frame (site, OfExpr (found site q)) × (at : ℕ) × (slice_get s.framed frame ≡ Some at) × (rows : List Row) × GivesQuery s.known.file s.lines at q c rows
 
 abbrev pub parts_of : Disj → Parts
 parts_of (disj n ps) = ps

@@ -2,12 +2,12 @@
 use Rattle.std.specs.Prelude.{ℕ, Option}
 use Rattle.value_compare.specs.code.Stores.{see_store}
 use Rattle.clause_eval.specs.code.Beside.{beside_in}
-use Rattle.clause_eval.specs.code.FoundLines.{found_in}
-use Rattle.clause_eval.specs.code.FrameLines.{line_in}
+use Rattle.engine_parts.specs.code.FoundLines.{found_in}
+use Rattle.engine_parts.specs.code.FrameLines.{line_in}
 use Rattle.clause_eval.specs.code.States.{State}
 use Rattle.clause_eval.specs.declared.engine.Engine.{Engine}
-use Rattle.clause_eval.specs.declared.frame_lines.FrameLines.{FrameLines}
-use Rattle.clause_eval.specs.declared.site_lines.SiteLines.{SiteLines}
+use Rattle.engine_parts.specs.declared.frame_lines.FrameLines.{FrameLines}
+use Rattle.engine_parts.specs.declared.site_lines.SiteLines.{SiteLines}
 
 abbrev pub lines_in : SiteLines → ℕ → Option ℕ
 lines_in t site = found_in t.first t.lines.items site

@@ -14,34 +14,27 @@ use Rattle.std.proofs.Common.{sym, subst}
 use Rattle.yaml_grammar.specs.code.Steps.{IsBlock}
 use Rattle.yaml_grammar.specs.declared.form.Form.{Form}
 use Rattle.yaml_grammar.proofs.Extended.{tag_extends}
+use Rattle.yaml_grammar.specs.declared.ahead.Token.TheVariants.{Tag}
+use Rattle.yaml_grammar.proofs.ValueReads.{begins-none}
+use Rattle.std.proofs.Common.{refl}
 use Rattle.yaml_blocks.proofs.block.tag.Goals as goal
+
+pub returns : goal.returns
+returns c = record {
+  gives = λ text w same.
+      let fs = stack c.args.forms.now.items in
+      let u = c.args.builder.now in
+      tag_gives text fs (stack c.begin_tag.new.forms.items) u c.begin_tag.new.builder c.args.site.form c.tagged.result c.args.site.at c.requires.tag.0 c.args.site.next c.begin_tag.result w.seen.0 (spot_of text fs u c.args.site.form c.args.site.at c.args.site.next w) c.requires.tag.1 c.requires.takes c.tagged.ensures (tag_same c.args.text.now text c.tagged.result c.args.site.next fs (stack c.begin_tag.new.forms.items) u c.begin_tag.new.builder c.begin_tag.result (same.name c.requires.tag.0 c.requires.takes c.requires.tag.1) c.begin_tag.ensures);
+  fixes = tag_fixes c.args.text.now c.args.site.form c.tagged.result c.args.site.at c.requires.tag.0 c.args.site.next (stack c.args.forms.now.items) (stack c.begin_tag.new.forms.items) c.args.builder.now c.begin_tag.new.builder c.begin_tag.result c.requires.awaited.seen c.requires.awaited.boundary (place_behind c.args.text.now (stack c.args.forms.now.items) c.args.builder.now c.args.site.form c.args.site.at c.args.site.next c.requires.awaited) c.requires.tag.1 c.begin_tag.ensures;
+  opens = tag_opening c.args.text.now c.tagged.result c.args.site.next (stack c.args.forms.now.items) (stack c.begin_tag.new.forms.items) c.args.builder.now c.begin_tag.new.builder c.begin_tag.result (subst (λ (f : Form). IsBlock f) (sym c.tagged.ensures) tt) c.begin_tag.ensures;
+  stops = tag_stops c.args.text.now c.args.site.at (NoValue c.args.site.at c.args.site.next c.args.site.form (stack c.args.forms.now.items) c.args.builder.now) c.tagged.result c.args.site.next (stack c.args.forms.now.items) (stack c.begin_tag.new.forms.items) c.args.builder.now c.begin_tag.new.builder c.begin_tag.result c.begin_tag.ensures;
+  longer = tag_on (LengthensAt c.args.text.now stage.Value (stack c.args.forms.now.items) c.args.builder.now c.args.site.at) c.args.text.now c.tagged.result c.args.site.next (stack c.args.forms.now.items) (stack c.begin_tag.new.forms.items) c.args.builder.now c.begin_tag.new.builder c.begin_tag.result c.begin_tag.ensures;
+  extends = tag_extends c.args.text.now c.tagged.result c.args.site.next (stack c.args.forms.now.items) (stack c.begin_tag.new.forms.items) c.args.builder.now c.begin_tag.new.builder c.args.builder.now c.args.site.at c.begin_tag.result c.begin_tag.ensures;
+  again = λ starts. absurd (begins-none c.args.site.next.token (Tag c.requires.tag.0) c.requires.tag.1 refl starts);
+}
 
 pub begin_tag-requires-clause-first : goal.begin_tag-requires-clause-first
 begin_tag-requires-clause-first c = tag_cut c.args.text.now false c.args.site.at c.requires.tag.0 c.args.site.next c.requires.awaited.seen c.requires.tag.1
 
-pub returns-clause-gives : goal.returns-clause-gives
-returns-clause-gives c = λ text w same.
-    let fs = stack c.args.forms.now.items in
-    let u = c.args.builder.now in
-    tag_gives text fs (stack c.begin_tag.new.forms.items) u c.begin_tag.new.builder c.args.site.form c.tagged.result c.args.site.at c.requires.tag.0 c.args.site.next c.begin_tag.result w.seen.0
-    (spot_of text fs u c.args.site.form c.args.site.at c.args.site.next w) c.requires.tag.1 c.requires.takes c.tagged.ensures
-    (tag_same c.args.text.now text c.tagged.result c.args.site.next fs (stack c.begin_tag.new.forms.items) u c.begin_tag.new.builder c.begin_tag.result (same.name c.requires.tag.0 c.requires.takes c.requires.tag.1) c.begin_tag.ensures)
-
 pub tagged-requires : goal.tagged-requires
 tagged-requires c = small_form c.args.text.now (stack c.args.forms.now.items) c.args.builder.now c.args.site.form c.args.site.at c.args.site.next c.requires.awaited
-
-pub returns-clause-fixes : goal.returns-clause-fixes
-returns-clause-fixes c = tag_fixes c.args.text.now c.args.site.form c.tagged.result c.args.site.at c.requires.tag.0 c.args.site.next (stack c.args.forms.now.items) (stack c.begin_tag.new.forms.items) c.args.builder.now c.begin_tag.new.builder c.begin_tag.result c.requires.awaited.seen c.requires.awaited.boundary (place_behind c.args.text.now (stack c.args.forms.now.items) c.args.builder.now c.args.site.form c.args.site.at c.args.site.next c.requires.awaited) c.requires.tag.1 c.begin_tag.ensures
-
-pub returns-clause-stops : goal.returns-clause-stops
-returns-clause-stops c =
-    tag_stops c.args.text.now c.args.site.at (NoValue c.args.site.at c.args.site.next c.args.site.form (stack c.args.forms.now.items) c.args.builder.now) c.tagged.result c.args.site.next (stack c.args.forms.now.items) (stack c.begin_tag.new.forms.items) c.args.builder.now c.begin_tag.new.builder c.begin_tag.result c.begin_tag.ensures
-
-pub returns-clause-longer : goal.returns-clause-longer
-returns-clause-longer c = tag_on (LengthensAt c.args.text.now stage.Value (stack c.args.forms.now.items) c.args.builder.now c.args.site.at) c.args.text.now c.tagged.result c.args.site.next (stack c.args.forms.now.items) (stack c.begin_tag.new.forms.items) c.args.builder.now c.begin_tag.new.builder c.begin_tag.result c.begin_tag.ensures
-
-pub returns-clause-opens : goal.returns-clause-opens
-returns-clause-opens c = tag_opening c.args.text.now c.tagged.result c.args.site.next (stack c.args.forms.now.items) (stack c.begin_tag.new.forms.items) c.args.builder.now c.begin_tag.new.builder c.begin_tag.result (subst (λ (f : Form). IsBlock f) (sym c.tagged.ensures) tt) c.begin_tag.ensures
-
-pub returns-clause-extends : goal.returns-clause-extends
-returns-clause-extends c = tag_extends c.args.text.now c.tagged.result c.args.site.next (stack c.args.forms.now.items) (stack c.begin_tag.new.forms.items) c.args.builder.now c.begin_tag.new.builder c.args.builder.now c.args.site.at c.begin_tag.result c.begin_tag.ensures

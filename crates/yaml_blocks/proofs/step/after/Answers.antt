@@ -19,129 +19,88 @@ use Rattle.yaml_grammar.proofs.FedSites.{again_from, tail_again}
 use Rattle.yaml_grammar.proofs.FedSteps.{flow_in, block_in}
 use Rattle.std.proofs.Common.{◌≡◌, ◌+◌, ◌*◌, refl}
 use Rattle.yaml_grammar.proofs.Placed.{placed}
+use Rattle.yaml_grammar.proofs.Extended.{value_apart}
 use Rattle.yaml_blocks.proofs.step.after.Goals as goal
 
-pub returns-in-Flow-clause-gives : goal.returns-in-Flow-clause-gives
-returns-in-Flow-clause-gives c = λ other utf8 cut fits same.
-    let found = c.innermost.ensures ∙ ap (λ (x : List Form). top (stack x)) c.deref.ensures.value in
-    let flow = subst IsFlow (sym c.in-Flow.is ∙ found) tt in
-    c.after.ensures.gives other (seen_alike c.args.text.now other true c.args.at utf8 cut (same.0 flow))
+pub returns-in-Flow : goal.returns-in-Flow
+returns-in-Flow c = record {
+  gives = λ other utf8 cut fits same.
+      let found = c.innermost.ensures ∙ ap (λ (x : List Form). top (stack x)) c.deref.ensures.value in
+      let flow = subst IsFlow (sym c.in-Flow.is ∙ found) tt in
+      c.after.ensures.gives other (seen_alike c.args.text.now other true c.args.at utf8 cut (same.0 flow));
+  fixes =
+      let found = c.innermost.ensures ∙ ap (λ (x : List Form). top (stack x)) c.deref.ensures.value in
+      subst (λ (f : Form). FixesStep c.args.text.now stage.After f c.args.at c.after.result) found (flow_after_step c.args.text.now c.innermost.result c.args.at c.after.result (subst IsFlow (sym c.in-Flow.is) tt) c.requires.boundary c.after.ensures.fixes);
+  feeds =
+      let found = c.innermost.ensures ∙ ap (λ (x : List Form). top (stack x)) c.deref.ensures.value in
+      let gs = stack c.after.new.forms.items in
+      subst (λ (f : Form). FeedsStep c.args.text.now stage.After f c.args.at gs c.after.result) found (flow_after_feeds c.args.text.now c.innermost.result c.args.at gs c.after.result (subst IsFlow (sym c.in-Flow.is) tt) c.after.ensures.feeds);
+  stops = tail_stops c.args.text.now (stack c.args.forms.now.items) c.args.builder.now c.args.at c.after.result c.requires.boundary c.after.ensures.stops;
+  longer = c.after.ensures.longer;
+  extends = ((λ block. ((λ e. absurd (value_apart (sym e))), (λ e. (let found = c.innermost.ensures ∙ ap (λ (x : List Form). top (stack x)) c.deref.ensures.value in absurd (apart (top (stack c.args.forms.now.items)) block (subst IsFlow (sym c.in-Flow.is ∙ found) tt)))))), (λ flow. c.after.ensures.shuts));
+  again = λ starts.
+      let text = c.args.text.now in
+      let fs = stack c.args.forms.now.items in
+      let found = c.innermost.ensures ∙ ap (λ (x : List Form). top (stack x)) c.deref.ensures.value in
+      let flow = subst IsFlow (sym (sym found ∙ c.in-Flow.is)) tt in
+      tail_again (NoneLonger text stage.After fs c.args.builder.now c.args.at) text fs c.args.builder.now c.args.at (2 * c.args.at + 2) (stack c.after.new.forms.items) c.after.new.builder c.after.result flow c.requires.fits.0 (subst (λ q. starts_scalar (ahead text q c.args.at).token ≡ true) (flow_in (top fs) flow) starts) (c.after.ensures.gives text (refl, placed text true c.args.at c.utf8.text c.requires.boundary));
+}
 
-pub returns-in-FlowTagged-clause-gives : goal.returns-in-FlowTagged-clause-gives
-returns-in-FlowTagged-clause-gives c = λ other utf8 cut fits same.
-    let found = c.innermost.ensures ∙ ap (λ (x : List Form). top (stack x)) c.deref.ensures.value in
-    let flow = subst IsFlow (sym c.in-FlowTagged.is ∙ found) tt in
-    c.after_tag.ensures.gives other (seen_alike c.args.text.now other true c.args.at utf8 cut (same.0 flow))
+pub returns-in-FlowTagged : goal.returns-in-FlowTagged
+returns-in-FlowTagged c = record {
+  gives = λ other utf8 cut fits same.
+      let found = c.innermost.ensures ∙ ap (λ (x : List Form). top (stack x)) c.deref.ensures.value in
+      let flow = subst IsFlow (sym c.in-FlowTagged.is ∙ found) tt in
+      c.after_tag.ensures.gives other (seen_alike c.args.text.now other true c.args.at utf8 cut (same.0 flow));
+  fixes =
+      let found = c.innermost.ensures ∙ ap (λ (x : List Form). top (stack x)) c.deref.ensures.value in
+      subst (λ (f : Form). FixesStep c.args.text.now stage.After f c.args.at c.after_tag.result) found (flow_after_step c.args.text.now c.innermost.result c.args.at c.after_tag.result (subst IsFlow (sym c.in-FlowTagged.is) tt) c.requires.boundary c.after_tag.ensures.fixes);
+  feeds =
+      let found = c.innermost.ensures ∙ ap (λ (x : List Form). top (stack x)) c.deref.ensures.value in
+      let gs = stack c.after_tag.new.forms.items in
+      subst (λ (f : Form). FeedsStep c.args.text.now stage.After f c.args.at gs c.after_tag.result) found (flow_after_feeds c.args.text.now c.innermost.result c.args.at gs c.after_tag.result (subst IsFlow (sym c.in-FlowTagged.is) tt) c.after_tag.ensures.feeds);
+  stops = tail_stops c.args.text.now (stack c.args.forms.now.items) c.args.builder.now c.args.at c.after_tag.result c.requires.boundary c.after_tag.ensures.stops;
+  longer = c.after_tag.ensures.longer;
+  extends = ((λ block. ((λ e. absurd (value_apart (sym e))), (λ e. (let found = c.innermost.ensures ∙ ap (λ (x : List Form). top (stack x)) c.deref.ensures.value in absurd (apart (top (stack c.args.forms.now.items)) block (subst IsFlow (sym c.in-FlowTagged.is ∙ found) tt)))))), (λ flow. c.after_tag.ensures.shuts));
+  again = λ starts.
+      let text = c.args.text.now in
+      let fs = stack c.args.forms.now.items in
+      let found = c.innermost.ensures ∙ ap (λ (x : List Form). top (stack x)) c.deref.ensures.value in
+      let flow = subst IsFlow (sym (sym found ∙ c.in-FlowTagged.is)) tt in
+      tail_again (NoneLonger text stage.After fs c.args.builder.now c.args.at) text fs c.args.builder.now c.args.at (2 * c.args.at + 2) (stack c.after_tag.new.forms.items) c.after_tag.new.builder c.after_tag.result flow c.requires.fits.0 (subst (λ q. starts_scalar (ahead text q c.args.at).token ≡ true) (flow_in (top fs) flow) starts) (c.after_tag.ensures.gives text (refl, placed text true c.args.at c.utf8.text c.requires.boundary));
+}
 
-pub returns-in_default-clause-gives : goal.returns-in_default-clause-gives
-returns-in_default-clause-gives c = λ other utf8 cut fits same.
-    let text = c.args.text.now in
-    let at = c.args.at in
-    let found = c.innermost.ensures ∙ ap (λ (x : List Form). top (stack x)) c.deref.ensures.value in
-    let block = subst IsBlock found (block_of c.innermost.result c.in_default.not-Flow c.in_default.not-FlowTagged) in
-    let alike = same.1 block in
-    c.after-in_default.ensures.gives other alike.0 (seen_alike text other false at utf8 cut alike.0.here) cut (fits.2 block) alike.1
+pub returns-in_default : goal.returns-in_default
+returns-in_default c = record {
+  gives = λ other utf8 cut fits same.
+      let text = c.args.text.now in
+      let at = c.args.at in
+      let found = c.innermost.ensures ∙ ap (λ (x : List Form). top (stack x)) c.deref.ensures.value in
+      let block = subst IsBlock found (block_of c.innermost.result c.in_default.not-Flow c.in_default.not-FlowTagged) in
+      let alike = same.1 block in
+      c.after-in_default.ensures.gives other alike.0 (seen_alike text other false at utf8 cut alike.0.here) cut (fits.2 block) alike.1;
+  fixes =
+      let found = c.innermost.ensures ∙ ap (λ (x : List Form). top (stack x)) c.deref.ensures.value in
+      subst (λ (f : Form). FixesStep c.args.text.now stage.After f c.args.at c.after-in_default.result) found (after_step c.args.text.now c.innermost.result c.args.at c.after-in_default.result (block_of c.innermost.result c.in_default.not-Flow c.in_default.not-FlowTagged) c.after-in_default.ensures.fixes);
+  feeds =
+      let found = c.innermost.ensures ∙ ap (λ (x : List Form). top (stack x)) c.deref.ensures.value in
+      let gs = stack c.after-in_default.new.forms.items in
+      subst (λ (f : Form). FeedsStep c.args.text.now stage.After f c.args.at gs c.after-in_default.result) found (block_feeds c.args.text.now stage.After c.innermost.result c.args.at gs c.after-in_default.result (block_of c.innermost.result c.in_default.not-Flow c.in_default.not-FlowTagged) c.after-in_default.ensures.opens);
+  stops =
+      let found = c.innermost.ensures ∙ ap (λ (x : List Form). top (stack x)) c.deref.ensures.value in
+      line_stops c.args.text.now (stack c.args.forms.now.items) c.args.builder.now c.args.at c.after-in_default.result c.requires.boundary (subst IsBlock found (block_of c.innermost.result c.in_default.not-Flow c.in_default.not-FlowTagged)) c.after-in_default.ensures.stops;
+  longer = c.after-in_default.ensures.longer;
+  extends = ((λ block. ((λ e. absurd (value_apart (sym e))), (λ e. (c.after-in_default.ensures.leaves)))), (λ flow. let found = c.innermost.ensures ∙ ap (λ (x : List Form). top (stack x)) c.deref.ensures.value in no_shuts c.args.text.now (stack c.args.forms.now.items) (stack c.after-in_default.new.forms.items) c.args.at c.innermost.result c.after-in_default.result found (block_of c.innermost.result c.in_default.not-Flow c.in_default.not-FlowTagged) flow));
+  again = λ starts.
+      let text = c.args.text.now in
+      let fs = stack c.args.forms.now.items in
+      let found = c.innermost.ensures ∙ ap (λ (x : List Form). top (stack x)) c.deref.ensures.value in
+      let block = block_in (top fs) (subst IsBlock found (block_of c.innermost.result c.in_default.not-Flow c.in_default.not-FlowTagged)) in
+      again_from (NoneBehind text fs c.args.builder.now c.args.at) (NoneLonger text stage.After fs c.args.builder.now c.args.at) c.after-in_default.result (λ none other x cut fits t h. none other x cut t h) (c.after-in_default.ensures.again (subst (λ q. starts_scalar (ahead text q c.args.at).token ≡ true) block starts));
+}
 
-pub returns-in-Flow-clause-fixes : goal.returns-in-Flow-clause-fixes
-returns-in-Flow-clause-fixes c =
-    let found = c.innermost.ensures ∙ ap (λ (x : List Form). top (stack x)) c.deref.ensures.value in
-    subst (λ (f : Form). FixesStep c.args.text.now stage.After f c.args.at c.after.result) found (flow_after_step c.args.text.now c.innermost.result c.args.at c.after.result (subst IsFlow (sym c.in-Flow.is) tt) c.requires.boundary c.after.ensures.fixes)
+pub after_tag-requires-clause-boundary : goal.after_tag-requires-clause-boundary
+after_tag-requires-clause-boundary c = c.requires.boundary
 
-pub returns-in-FlowTagged-clause-fixes : goal.returns-in-FlowTagged-clause-fixes
-returns-in-FlowTagged-clause-fixes c =
-    let found = c.innermost.ensures ∙ ap (λ (x : List Form). top (stack x)) c.deref.ensures.value in
-    subst (λ (f : Form). FixesStep c.args.text.now stage.After f c.args.at c.after_tag.result) found (flow_after_step c.args.text.now c.innermost.result c.args.at c.after_tag.result (subst IsFlow (sym c.in-FlowTagged.is) tt) c.requires.boundary c.after_tag.ensures.fixes)
-
-pub returns-in_default-clause-fixes : goal.returns-in_default-clause-fixes
-returns-in_default-clause-fixes c =
-    let found = c.innermost.ensures ∙ ap (λ (x : List Form). top (stack x)) c.deref.ensures.value in
-    subst (λ (f : Form). FixesStep c.args.text.now stage.After f c.args.at c.after-in_default.result) found (after_step c.args.text.now c.innermost.result c.args.at c.after-in_default.result (block_of c.innermost.result c.in_default.not-Flow c.in_default.not-FlowTagged) c.after-in_default.ensures.fixes)
-
-pub returns-in-Flow-clause-stops : goal.returns-in-Flow-clause-stops
-returns-in-Flow-clause-stops c = tail_stops c.args.text.now (stack c.args.forms.now.items) c.args.builder.now c.args.at c.after.result c.requires.boundary c.after.ensures.stops
-
-pub returns-in-FlowTagged-clause-stops : goal.returns-in-FlowTagged-clause-stops
-returns-in-FlowTagged-clause-stops c = tail_stops c.args.text.now (stack c.args.forms.now.items) c.args.builder.now c.args.at c.after_tag.result c.requires.boundary c.after_tag.ensures.stops
-
-pub returns-in_default-clause-stops : goal.returns-in_default-clause-stops
-returns-in_default-clause-stops c =
-    let found = c.innermost.ensures ∙ ap (λ (x : List Form). top (stack x)) c.deref.ensures.value in
-    line_stops c.args.text.now (stack c.args.forms.now.items) c.args.builder.now c.args.at c.after-in_default.result c.requires.boundary (subst IsBlock found (block_of c.innermost.result c.in_default.not-Flow c.in_default.not-FlowTagged)) c.after-in_default.ensures.stops
-
-pub returns-in-Flow-clause-feeds : goal.returns-in-Flow-clause-feeds
-returns-in-Flow-clause-feeds c =
-    let found = c.innermost.ensures ∙ ap (λ (x : List Form). top (stack x)) c.deref.ensures.value in
-    let gs = stack c.after.new.forms.items in
-    subst (λ (f : Form). FeedsStep c.args.text.now stage.After f c.args.at gs c.after.result) found (flow_after_feeds c.args.text.now c.innermost.result c.args.at gs c.after.result (subst IsFlow (sym c.in-Flow.is) tt) c.after.ensures.feeds)
-
-pub returns-in-FlowTagged-clause-feeds : goal.returns-in-FlowTagged-clause-feeds
-returns-in-FlowTagged-clause-feeds c =
-    let found = c.innermost.ensures ∙ ap (λ (x : List Form). top (stack x)) c.deref.ensures.value in
-    let gs = stack c.after_tag.new.forms.items in
-    subst (λ (f : Form). FeedsStep c.args.text.now stage.After f c.args.at gs c.after_tag.result) found (flow_after_feeds c.args.text.now c.innermost.result c.args.at gs c.after_tag.result (subst IsFlow (sym c.in-FlowTagged.is) tt) c.after_tag.ensures.feeds)
-
-pub returns-in_default-clause-feeds : goal.returns-in_default-clause-feeds
-returns-in_default-clause-feeds c =
-    let found = c.innermost.ensures ∙ ap (λ (x : List Form). top (stack x)) c.deref.ensures.value in
-    let gs = stack c.after-in_default.new.forms.items in
-    subst (λ (f : Form). FeedsStep c.args.text.now stage.After f c.args.at gs c.after-in_default.result) found (block_feeds c.args.text.now stage.After c.innermost.result c.args.at gs c.after-in_default.result (block_of c.innermost.result c.in_default.not-Flow c.in_default.not-FlowTagged) c.after-in_default.ensures.opens)
-
-pub returns-in-Flow-clause-longer : goal.returns-in-Flow-clause-longer
-returns-in-Flow-clause-longer c = c.after.ensures.longer
-
-pub returns-in-FlowTagged-clause-longer : goal.returns-in-FlowTagged-clause-longer
-returns-in-FlowTagged-clause-longer c = c.after_tag.ensures.longer
-
-pub returns-in_default-clause-longer : goal.returns-in_default-clause-longer
-returns-in_default-clause-longer c = c.after-in_default.ensures.longer
-
-pub returns-in-Flow-clause-leaves : goal.returns-in-Flow-clause-leaves
-returns-in-Flow-clause-leaves c = λ block.
-    let found = c.innermost.ensures ∙ ap (λ (x : List Form). top (stack x)) c.deref.ensures.value in
-    absurd (apart (top (stack c.args.forms.now.items)) block (subst IsFlow (sym c.in-Flow.is ∙ found) tt))
-
-pub returns-in-FlowTagged-clause-leaves : goal.returns-in-FlowTagged-clause-leaves
-returns-in-FlowTagged-clause-leaves c = λ block.
-    let found = c.innermost.ensures ∙ ap (λ (x : List Form). top (stack x)) c.deref.ensures.value in
-    absurd (apart (top (stack c.args.forms.now.items)) block (subst IsFlow (sym c.in-FlowTagged.is ∙ found) tt))
-
-pub returns-in_default-clause-leaves : goal.returns-in_default-clause-leaves
-returns-in_default-clause-leaves c = λ block. c.after-in_default.ensures.leaves
-
-pub returns-in-Flow-clause-shuts : goal.returns-in-Flow-clause-shuts
-returns-in-Flow-clause-shuts c = λ flow. c.after.ensures.shuts
-
-pub returns-in-FlowTagged-clause-shuts : goal.returns-in-FlowTagged-clause-shuts
-returns-in-FlowTagged-clause-shuts c = λ flow. c.after_tag.ensures.shuts
-
-pub returns-in_default-clause-shuts : goal.returns-in_default-clause-shuts
-returns-in_default-clause-shuts c = λ flow.
-    let found = c.innermost.ensures ∙ ap (λ (x : List Form). top (stack x)) c.deref.ensures.value in
-    no_shuts c.args.text.now (stack c.args.forms.now.items) (stack c.after-in_default.new.forms.items) c.args.at c.innermost.result c.after-in_default.result found (block_of c.innermost.result c.in_default.not-Flow c.in_default.not-FlowTagged) flow
-
-pub returns-in-Flow-clause-again : goal.returns-in-Flow-clause-again
-returns-in-Flow-clause-again c = λ starts.
-    let text = c.args.text.now in
-    let fs = stack c.args.forms.now.items in
-    let found = c.innermost.ensures ∙ ap (λ (x : List Form). top (stack x)) c.deref.ensures.value in
-    let flow = subst IsFlow (sym (sym found ∙ c.in-Flow.is)) tt in
-    tail_again (NoneLonger text stage.After fs c.args.builder.now c.args.at) text fs c.args.builder.now c.args.at (2 * c.args.at + 2) (stack c.after.new.forms.items) c.after.new.builder c.after.result flow c.requires.fits.0
-    (subst (λ q. starts_scalar (ahead text q c.args.at).token ≡ true) (flow_in (top fs) flow) starts) (c.after.ensures.gives text (refl, placed text true c.args.at c.utf8.text c.requires.boundary))
-
-pub returns-in-FlowTagged-clause-again : goal.returns-in-FlowTagged-clause-again
-returns-in-FlowTagged-clause-again c = λ starts.
-    let text = c.args.text.now in
-    let fs = stack c.args.forms.now.items in
-    let found = c.innermost.ensures ∙ ap (λ (x : List Form). top (stack x)) c.deref.ensures.value in
-    let flow = subst IsFlow (sym (sym found ∙ c.in-FlowTagged.is)) tt in
-    tail_again (NoneLonger text stage.After fs c.args.builder.now c.args.at) text fs c.args.builder.now c.args.at (2 * c.args.at + 2) (stack c.after_tag.new.forms.items) c.after_tag.new.builder c.after_tag.result flow c.requires.fits.0
-    (subst (λ q. starts_scalar (ahead text q c.args.at).token ≡ true) (flow_in (top fs) flow) starts) (c.after_tag.ensures.gives text (refl, placed text true c.args.at c.utf8.text c.requires.boundary))
-
-pub returns-in_default-clause-again : goal.returns-in_default-clause-again
-returns-in_default-clause-again c = λ starts.
-    let text = c.args.text.now in
-    let fs = stack c.args.forms.now.items in
-    let found = c.innermost.ensures ∙ ap (λ (x : List Form). top (stack x)) c.deref.ensures.value in
-    let block = block_in (top fs) (subst IsBlock found (block_of c.innermost.result c.in_default.not-Flow c.in_default.not-FlowTagged)) in
-    again_from (NoneBehind text fs c.args.builder.now c.args.at) (NoneLonger text stage.After fs c.args.builder.now c.args.at) c.after-in_default.result (λ none other x cut fits t h. none other x cut t h)
-    (c.after-in_default.ensures.again (subst (λ q. starts_scalar (ahead text q c.args.at).token ≡ true) block starts))
+pub after-requires-clause-boundary : goal.after-requires-clause-boundary
+after-requires-clause-boundary c = c.requires.boundary

@@ -10,30 +10,29 @@ use Rattle.yaml_grammar.proofs.Fed.{entry_feeds}
 use Rattle.yaml_grammar.specs.Ahead.{ahead}
 use Rattle.yaml_grammar.specs.Nodes.{starts_scalar}
 use Rattle.yaml_grammar.specs.code.Closers.{in_flow}
+use Rattle.yaml_grammar.proofs.Extended.{entry_apart, after_apart}
+use Rattle.yaml_grammar.specs.declared.stage.Stage.TheVariants as stage
+use Rattle.std.proofs.Common.{refl}
 use Rattle.yaml_blocks.proofs.step.entry.Goals as goal
 
-pub returns-clause-gives : goal.returns-clause-gives
-returns-clause-gives c = λ other utf8 cut fits same.
-    let form = sym (c.innermost.ensures ∙ ap (λ (x : List Form). top (stack x)) c.deref.ensures.value) ∙ c.in-Flow.is in
-    c.entry.ensures.gives other (seen_alike c.args.text.now other true c.args.at utf8 cut same.0) (λ h. same.1 (form ∙ ap Flow h)) (λ h. same.2 (form ∙ ap Flow h))
+pub returns : goal.returns
+returns c = record {
+  gives = λ other utf8 cut fits same.
+      let form = sym (c.innermost.ensures ∙ ap (λ (x : List Form). top (stack x)) c.deref.ensures.value) ∙ c.in-Flow.is in
+      c.entry.ensures.gives other (seen_alike c.args.text.now other true c.args.at utf8 cut same.0) (λ h. same.1 (form ∙ ap Flow h)) (λ h. same.2 (form ∙ ap Flow h));
+  fixes =
+      let form = sym (c.innermost.ensures ∙ ap (λ (x : List Form). top (stack x)) c.deref.ensures.value) ∙ c.in-Flow.is in
+      entry_step c.args.text.now (top (stack c.args.forms.now.items)) c.args.at c.in-Flow.map c.entry.result form c.requires.boundary c.entry.ensures.fixes;
+  feeds =
+      let form = sym (c.innermost.ensures ∙ ap (λ (x : List Form). top (stack x)) c.deref.ensures.value) ∙ c.in-Flow.is in
+      entry_feeds c.args.text.now (top (stack c.args.forms.now.items)) c.args.at c.in-Flow.map (stack c.entry.new.forms.items) c.entry.result form c.entry.ensures.feeds;
+  stops = entry_stops c.args.text.now (stack c.args.forms.now.items) c.args.builder.now c.args.at c.entry.result c.requires.boundary c.entry.ensures.stops;
+  longer = c.entry.ensures.longer;
+  extends = ((λ block. ((λ e. absurd (entry_apart e)), (λ e. absurd (after_apart stage.Entry e refl)))), (λ flow. c.entry.ensures.shuts));
+  again = λ starts.
+      let form = sym (c.innermost.ensures ∙ ap (λ (x : List Form). top (stack x)) c.deref.ensures.value) ∙ c.in-Flow.is in
+      c.entry.ensures.again (subst (λ q. starts_scalar (ahead c.args.text.now q c.args.at).token ≡ true) (ap in_flow form) starts);
+}
 
-pub returns-clause-fixes : goal.returns-clause-fixes
-returns-clause-fixes c =
-    let form = sym (c.innermost.ensures ∙ ap (λ (x : List Form). top (stack x)) c.deref.ensures.value) ∙ c.in-Flow.is in
-    entry_step c.args.text.now (top (stack c.args.forms.now.items)) c.args.at c.in-Flow.map c.entry.result form c.requires.boundary c.entry.ensures.fixes
-
-pub returns-clause-stops : goal.returns-clause-stops
-returns-clause-stops c = entry_stops c.args.text.now (stack c.args.forms.now.items) c.args.builder.now c.args.at c.entry.result c.requires.boundary c.entry.ensures.stops
-
-pub returns-clause-feeds : goal.returns-clause-feeds
-returns-clause-feeds c =
-    let form = sym (c.innermost.ensures ∙ ap (λ (x : List Form). top (stack x)) c.deref.ensures.value) ∙ c.in-Flow.is in
-    entry_feeds c.args.text.now (top (stack c.args.forms.now.items)) c.args.at c.in-Flow.map (stack c.entry.new.forms.items) c.entry.result form c.entry.ensures.feeds
-
-pub returns-clause-longer : goal.returns-clause-longer
-returns-clause-longer c = c.entry.ensures.longer
-
-pub returns-clause-again : goal.returns-clause-again
-returns-clause-again c = λ starts.
-    let form = sym (c.innermost.ensures ∙ ap (λ (x : List Form). top (stack x)) c.deref.ensures.value) ∙ c.in-Flow.is in
-    c.entry.ensures.again (subst (λ q. starts_scalar (ahead c.args.text.now q c.args.at).token ≡ true) (ap in_flow form) starts)
+pub entry-requires-clause-boundary : goal.entry-requires-clause-boundary
+entry-requires-clause-boundary c = c.requires.boundary

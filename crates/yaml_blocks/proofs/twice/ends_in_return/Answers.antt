@@ -7,3 +7,6 @@ pub returns : goal.returns
 returns c =
     let some : length c.args.bytes.now ≡ suc (length c.args.bytes.now - 1) = grind (arith, common_steps) in
     sym (ends_at c.args.bytes.now (length c.args.bytes.now - 1) some)
+
+pub returns-then-is_empty : goal.returns-then-is_empty
+returns-then-is_empty c = grind (arith, common_steps)

@@ -81,3 +81,9 @@ returns-in-None-clause-end c =
     let before = c.loop-place.invariant in
     let whole = ap (λ (b : List ℕ). length b) c.as_bytes-bytes.ensures.value in
     subst (λ k. (c.args.start ≤ k) × (k ≤ length text) × IsCharBoundary text k) (sym (c.in_ok-finish-in-None.ensures.end ∙ whole)) (omega (arith, before.0, before.1), omega arith, IsCharBoundary-end text)
+
+pub add_line-requires-clause-begin : goal.add_line-requires-clause-begin
+add_line-requires-clause-begin c = c.content_start-begin.ensures.boundary
+
+pub add_line-requires-in-Some-next_line-clause-begin : goal.add_line-requires-in-Some-next_line-clause-begin
+add_line-requires-in-Some-next_line-clause-begin c = c.content_start-begin.ensures.boundary

@@ -1,6 +1,10 @@
-use Rattle.std.proofs.Common.{arith}
-use Rattle.std.proofs.lemmas.Grind.{common_steps}
 use Rattle.yaml_scalars.proofs.block.read_lines.Goals as goal
 
 pub read_content-requires-in-Indented-clause-boundary : goal.read_content-requires-in-Indented-clause-boundary
-read_content-requires-in-Indented-clause-boundary c = grind (arith, common_steps)
+read_content-requires-in-Indented-clause-boundary c = c.requires.boundary
+
+pub read_blanks-requires-clause-boundary : goal.read_blanks-requires-clause-boundary
+read_blanks-requires-clause-boundary c = c.requires.boundary
+
+pub read_content-requires-clause-boundary : goal.read_content-requires-clause-boundary
+read_content-requires-clause-boundary c = c.requires.boundary

@@ -1,9 +1,9 @@
-use Rattle.std.proofs.Common.{◌≡◌, ℕ, suc, ◌+◌, ◌-◌, ◌∷◌, ◌++◌, [], ◌<◌, ◌≤◌, refl, sym, ap, ◌∙◌, subst, arith, length, map, get_or, Contains, List, Some, None, Option, IfOk}
+use Rattle.std.proofs.Common.{◌≡◌, ℕ, suc, ◌+◌, ◌-◌, ◌∷◌, [], ◌<◌, ◌≤◌, refl, sym, ap, ◌∙◌, subst, arith, length, map, get_or, Contains, List, Some, None, Option, IfOk}
 use Rattle.std.specs.List.{list_all}
 use Rattle.std.specs.Prelude.{IsSome}
 use Rattle.std.proofs.lemmas.Bool.{true≢false}
 use Rattle.std.proofs.lemmas.List.{get_or_default}
-use Rattle.std.proofs.lemmas.Option.{none-some, same_Some, slice_get_within}
+use Rattle.std.proofs.lemmas.Option.{none-some, same_Some}
 use Rattle.std.proofs.lemmas.Result.{IfOk-weaker}
 use Rattle.evidence_lines.specs.declared.line.LineKind.TheVariants as kind
 use Rattle.guard_syntax.specs.Syntax.{asked, found, function, literal, Part, block, call, guarded, kinds, refer}
@@ -23,24 +23,23 @@ use Rattle.query_steps.specs.code.Placed.{FiltersAt, candidates_of_place, see_pl
 use Rattle.scope_frames.specs.code.Cells.{cell_of}
 use Rattle.scope_frames.specs.code.Frames.{AreEntered, StandsFor}
 use Rattle.scope_frames.specs.code.Scoping.{IsValue}
-use Rattle.evidence_rules.specs.CitedLines.{args_of_part}
-use Rattle.clause_eval.specs.code.Answers.{AnswersExpr, AnswersStepBehind, StandsIn, GivesStepBefore, above, AnswersVerdict, IsKinds}
+use Rattle.clause_eval.specs.code.Answers.{AnswersStepBehind, GivesStepBefore, above, AnswersVerdict, IsKinds}
 use Rattle.clause_eval.specs.code.Engines.{see_engine}
 use Rattle.clause_eval.specs.code.Evaluated.{Evaluates}
 use Rattle.clause_eval.specs.code.Falling.{height_at}
 use Rattle.clause_eval.specs.code.Inside.{expr_sited, disj_sited}
-use Rattle.clause_eval.specs.code.Kinds.{own_kind, kind_of_part}
+use Rattle.clause_eval.specs.code.Kinds.{kind_of_part}
 use Rattle.clause_eval.proofs.CandidatesAnswered.{all-at, candidate-may, candidate-next, candidate-rank, candidate-value, candidates-end, candidates-start, conditions-there}
 use Rattle.clause_eval.proofs.Elements.{next-fits, within-len}
 use Rattle.clause_eval.proofs.Evaluating.{Evaluates-none, same-file}
 use Rattle.clause_eval.proofs.Finished.{found-rows-answer}
 use Rattle.clause_eval.proofs.Insides.{asked-seen, found-seen, literal-seen, step-of, body-own, conds-own, disj-own, refer-seen, test-seen}
-use Rattle.clause_eval.proofs.NamesAnswered.{capture-absent, capture-answer, capture-found, capture-gives, capture-rank, capture-steps, capture-still, capture-within, captured-answer, captured-rank, captured-stands, let-answer, let-rank, let-stands, param-answer, param-arg-answer, param-arg-rank, param-arg-stands, param-rank, param-stands, param-within, use-bound, use-stands, value-expr-answer, value-expr-rank, value-expr-stands, value-query-answer, value-query-rank, value-query-stands}
-use Rattle.clause_eval.proofs.ParametersRead.{param-are, param-caller, param-find, param-parent, param-part, param-piece}
-use Rattle.clause_eval.proofs.PiecesLeft.{part-only, step-only, value-only}
+use Rattle.clause_eval.proofs.NamesAnswered.{capture-absent, capture-answer, capture-found, capture-gives, capture-rank, capture-steps, capture-still, capture-within, captured-answer, captured-rank, captured-stands, let-answer, let-rank, let-stands, param-answer, param-arg-answer, param-arg-rank, param-arg-stands, param-rank, param-stands, use-bound, use-stands, value-expr-answer, value-expr-rank, value-expr-stands, value-query-answer, value-query-rank, value-query-stands}
+use Rattle.clause_eval.proofs.ParametersRead.{param-given}
+use Rattle.clause_eval.proofs.PiecesLeft.{step-only, value-only}
 use Rattle.clause_eval.proofs.QueriesBegun.{query-begins}
-use Rattle.clause_eval.proofs.Ranks.{rank-on, rank_in, step_place}
-use Rattle.clause_eval.proofs.RowsAnswered.{answers-as, arg-next, arg-rank, arg-stands, args-end, args-start, asked-rank, asked-stands, call-absent, call-answer, call-given, found-absent, found-adds, found-answer, found-stands, function-form, has-steps, query-answer, query-rank, query-says, query-stands, rank-as, stands-as}
+use Rattle.clause_eval.proofs.Ranks.{rank-on, step_place}
+use Rattle.clause_eval.proofs.RowsAnswered.{answers-as, arg-next, arg-rank, arg-stands, args-end, args-start, asked-rank, asked-stands, call-absent, call-answer, call-given, found-absent, found-answer, found-asks, function-form, has-steps, query-answer, query-rank, query-stands, rank-as, stands-as}
 use Rattle.clause_eval.proofs.StepsAnswered.{bare-further, bare-kind, filter-absent, filter-answer, filter-at, filter-before, filter-judged, filter-later, filter-place, filtered-answer, further-cited, is-filter, keys-further, keys-kind, keys-no-filter, later-place, own-absent, own-place, own-rank, right-bound, right-rank, right-stands, splice-further, splice-kind, splice-used, step-absent, step-answer, step-no-filter, step-with, tried-known, tried-says, var-further, var-kind, var-used}
 use Rattle.clause_eval.proofs.StepsInTurn.{before-next, line_list, new-next, step-rank, step-stands, step-there, steps-begun, steps-end, steps-next, steps-some}
 use Rattle.evidence_lines.specs.declared.line.LineKind.{LineKind}
@@ -99,7 +98,7 @@ pub expression-function-requires : goal.expression-function-requires
 expression-function-requires t c =
     let seen = function-form c.args.expr.now c.in-Function.site c.in-Function.name c.in-Function.args c.deref.result.now c.in-Function.is c.deref.ensures.value in
     let y = function c.in-Function.site c.in-Function.name (expr_list (map see_expr c.deref.result.now)) in (
-      rank-as (see_engine c.args.self.now) c.args.frame c.args.expr.now y seen 1 t c.decreases (omega arith),
+      rank-as (see_engine c.args.self.now) c.args.frame c.args.expr.now y seen 0 t c.decreases (omega arith),
       (c.requires.whole, (c.in-Function.name, stands-as (see_engine c.args.self.now) c.args.frame c.args.expr.now y seen c.requires.stands)),
     )
 
@@ -151,42 +150,24 @@ found_query-query-requires t c =
     let q = see_query c.args.query.now in
     (asked-rank s c.requires.whole order c.args.frame c.args.site q c.requires.stands t c.decreases, (c.requires.whole, asked-stands s c.requires.whole order c.args.frame c.args.site q c.requires.stands))
 
-pub found_query-rows_said-requires : goal.found_query-rows_said-requires
-found_query-rows_said-requires t c =
-    let it = c.in_ok-line.ensures in
-    let b = see_engine c.query.new.self in
-    let said = query-says b.known.file b.lines it.at (see_query c.args.query.now) c.in_ok-line.line it.says.0 it.says.1 in
-    (said.0, said.1, said.2, it.says.0, said.3)
+pub found_query-add_found-requires-clause-whole : goal.found_query-add_found-requires-clause-whole
+found_query-add_found-requires-clause-whole t c = c.in_ok-line.ensures.evaluates.whole
 
-pub found_query-add-requires-clause-whole : goal.found_query-add-requires-clause-whole
-found_query-add-requires-clause-whole t c = c.in_ok-line.ensures.evaluates.whole
+pub found_query-add_found-requires-clause-query : goal.found_query-add_found-requires-clause-query
+found_query-add_found-requires-clause-query t c =
+    found-asks (see_engine c.args.self.now) c.requires.whole c.args.self.now.store.file.now.sites c.args.frame c.args.site (see_query c.args.query.now) c.requires.stands
+    (see_engine c.query.new.self) c.in_ok-line.line c.in_ok-line.ensures
 
-pub found_query-add-requires-clause-kind : goal.found_query-add-requires-clause-kind
-found_query-add-requires-clause-kind t c =
-    let s = see_engine c.args.self.now in
-    ap own_kind (found-stands s c.requires.whole c.args.self.now.store.file.now.sites c.args.frame c.args.site (see_query c.args.query.now) c.requires.stands (see_engine c.query.new.self)
-    c.in_ok-line.line c.in_ok-line.ensures).there
-
-pub found_query-add-requires-clause-adds : goal.found_query-add-requires-clause-adds
-found_query-add-requires-clause-adds t c =
-    let it = c.in_ok-line.ensures in
-    let b = see_engine c.query.new.self in
-    let said = query-says b.known.file b.lines it.at (see_query c.args.query.now) c.in_ok-line.line it.says.0 it.says.1 in
-    found-adds (see_engine c.args.self.now) c.requires.whole c.args.self.now.store.file.now.sites c.args.frame c.args.site (see_query c.args.query.now) c.requires.stands b c.in_ok-line.line it
-    c.as_slice.result.now c.new.result c.push.new.self.items (c.as_slice.ensures ∙ c.in_ok-said.ensures ∙ c.rows_said.ensures said.0 said.1 said.2 it.says.0 said.3) (c.new.ensures ∙ c.deref.ensures.value ∙ c.in_ok-rows.ensures)
-    (c.in_ok-push.ensures.items ∙ ap (λ xs. xs ++ c.in_ok-line.line ∷ []) c.new-cites.ensures.items)
-
-pub found_query-add-requires-clause-new : goal.found_query-add-requires-clause-new
-found_query-add-requires-clause-new t c =
+pub found_query-add_found-requires-clause-new : goal.found_query-add_found-requires-clause-new
+found_query-add_found-requires-clause-new t c =
     found-absent (see_engine c.args.self.now) c.requires.whole c.args.self.now.store.file.now.sites c.args.frame c.args.site (see_query c.args.query.now) c.requires.stands
     (see_engine c.query.new.self) c.in_ok-line.line c.in_ok-line.ensures (sym c.in_default.ensures)
 
 pub found_query-returns : goal.found_query-returns
 found_query-returns t c =
-    IfOk-weaker c.add.result _ _ (λ number added.
+    IfOk-weaker c.add_found.result _ _ (λ number added.
     found-answer (see_engine c.args.self.now) c.requires.whole c.args.self.now.store.file.now.sites c.args.frame c.args.site (see_query c.args.query.now) c.requires.stands
-    (see_engine c.query.new.self) c.in_ok-line.line c.in_ok-line.ensures (see_engine c.add.new.self) c.new.result c.push.new.self.items number
-    (c.in_ok-push.ensures.items ∙ ap (λ xs. xs ++ c.in_ok-line.line ∷ []) c.new-cites.ensures.items) added) c.add.ensures
+    (see_engine c.query.new.self) c.in_ok-line.line c.in_ok-line.ensures (see_engine c.add_found.new.self) added.0 (c.in_ok-line.line ∷ []) number refl added.1) c.add_found.ensures
 
 pub function-returns-in-Some : goal.function-returns-in-Some
 function-returns-in-Some t c =
@@ -195,60 +176,57 @@ function-returns-in-Some t c =
     found-rows-answer s c.requires.whole c.args.frame (home_of s.known.file c.args.site) (c.args.site, OfExpr (function c.args.site called.0 (expr_list (map see_expr c.args.args.now)))) called.1
     c.in-Some.line kind.Fn (sym c.in-Some.ensures) refl refl
 
-pub function-arguments-requires : goal.function-arguments-requires
-function-arguments-requires t c =
-    let s = see_engine c.args.self.now in
-    (rank-on s s c.args.frame c.args.frame c.args.site c.args.site 1 0 t c.decreases (omega arith) (omega arith), (c.requires.whole, c.requires.stands))
+pub function-loop-arg-init : goal.function-loop-arg-init
+function-loop-arg-init t c =
+    args-start (see_engine c.args.self.now) c.requires.whole c.args.frame c.args.site c.args.args.now c.requires.stands c.new-cites.result.items c.new-cites.ensures.items
 
-pub function-add_call-requires-clause-whole : goal.function-add_call-requires-clause-whole
-function-add_call-requires-clause-whole t c = c.in_ok-cites.ensures.0.whole
-
-pub function-add_call-requires-clause-given : goal.function-add_call-requires-clause-given
-function-add_call-requires-clause-given t c = (
-  expr_list (map see_expr c.args.args.now),
-  call-given (see_engine c.args.self.now) c.requires.whole c.args.frame c.args.site c.args.args.now c.requires.stands (see_engine c.arguments.new.self) c.in_ok-cites.cites.items
-      c.in_ok-cites.ensures,
-)
-
-pub function-add_call-requires-clause-new : goal.function-add_call-requires-clause-new
-function-add_call-requires-clause-new t c =
-    call-absent (see_engine c.args.self.now) c.requires.whole c.args.frame c.args.site c.args.args.now c.requires.stands (see_engine c.arguments.new.self) c.in_ok-cites.cites.items
-    c.in_ok-cites.ensures (sym c.in_default.ensures)
-
-pub function-returns : goal.function-returns
-function-returns t c =
-    IfOk-weaker c.add_call.result _ _ (λ number it.
-    call-answer (see_engine c.args.self.now) c.requires.whole c.args.frame c.args.site c.args.args.now c.requires.stands (see_engine c.arguments.new.self) c.in_ok-cites.cites.items
-    c.in_ok-cites.ensures (see_engine c.add_call.new.self) c.in_ok-cites.cites.items number it.0 refl it.1) c.add_call.ensures
-
-pub arguments-loop-arg-init : goal.arguments-loop-arg-init
-arguments-loop-arg-init t c =
-    args-start (see_engine c.args.self.now) c.requires.whole c.args.frame c.args.site c.args.args.now c.requires.stands c.new-lines.result.items c.new-lines.ensures.items
-
-pub arguments-expression-requires : goal.arguments-expression-requires
-arguments-expression-requires t c =
+pub function-expression-requires : goal.function-expression-requires
+function-expression-requires t c =
     let s = see_engine c.args.self.now in
     let b = see_engine c.loop-arg.self in
     let order = c.args.self.now.store.file.now.sites in (
-      arg-rank s c.requires.whole c.args.frame c.args.site c.args.args.now c.requires.stands order b c.loop-arg.lines.items c.loop-arg.arg-index c.loop-arg.invariant c.arg-item.result
+      arg-rank s c.requires.whole c.args.frame c.args.site c.args.args.now c.requires.stands order b c.loop-arg.cites.items c.loop-arg.arg-index c.loop-arg.invariant c.arg-item.result
           c.loop-arg-test.true c.arg-item.is t c.decreases,
       (
         c.loop-arg.invariant.0.whole,
-        arg-stands s c.requires.whole c.args.frame c.args.site c.args.args.now c.requires.stands order b c.loop-arg.lines.items c.loop-arg.arg-index c.loop-arg.invariant c.arg-item.result
+        arg-stands s c.requires.whole c.args.frame c.args.site c.args.args.now c.requires.stands order b c.loop-arg.cites.items c.loop-arg.arg-index c.loop-arg.invariant c.arg-item.result
             c.loop-arg-test.true c.arg-item.is,
       ),
     )
 
-pub arguments-loop-arg-preserved : goal.arguments-loop-arg-preserved
-arguments-loop-arg-preserved t c =
+pub function-loop-arg-preserved : goal.function-loop-arg-preserved
+function-loop-arg-preserved t c =
     arg-next (see_engine c.args.self.now) c.requires.whole c.args.frame c.args.site c.args.args.now c.requires.stands c.args.self.now.store.file.now.sites (see_engine c.loop-arg.self)
-    c.loop-arg.lines.items c.loop-arg.arg-index c.loop-arg.invariant c.arg-item.result c.loop-arg-test.true c.arg-item.is (see_engine c.expression.new.self) c.in_ok-expression.field-0
+    c.loop-arg.cites.items c.loop-arg.arg-index c.loop-arg.invariant c.arg-item.result c.loop-arg-test.true c.arg-item.is (see_engine c.expression.new.self) c.in_ok-expression.field-0
     c.push.new.self.items c.in_ok-expression.ensures c.in_ok-push.ensures.items
 
-pub arguments-returns : goal.arguments-returns
-arguments-returns t c =
-    args-end (see_engine c.args.self.now) c.requires.whole c.args.frame c.args.site c.args.args.now c.requires.stands c.args.self.now.store.file.now.sites (see_engine c.loop-arg.self)
-    c.loop-arg.lines.items c.loop-arg.arg-index c.loop-arg.invariant c.loop-arg-test.false
+pub function-add_call-requires-clause-whole : goal.function-add_call-requires-clause-whole
+function-add_call-requires-clause-whole t c = c.loop-arg.invariant.0.whole
+
+pub function-add_call-requires-clause-given : goal.function-add_call-requires-clause-given
+function-add_call-requires-clause-given t c =
+    let s = see_engine c.args.self.now in
+    let all = args-end s c.requires.whole c.args.frame c.args.site c.args.args.now c.requires.stands c.args.self.now.store.file.now.sites (see_engine c.loop-arg.self)
+    c.loop-arg.cites.items c.loop-arg.arg-index c.loop-arg.invariant c.loop-arg-test.false in (
+      expr_list (map see_expr c.args.args.now),
+      call-given s c.requires.whole c.args.frame c.args.site c.args.args.now c.requires.stands (see_engine c.loop-arg.self) c.loop-arg.cites.items all,
+    )
+
+pub function-add_call-requires-clause-new : goal.function-add_call-requires-clause-new
+function-add_call-requires-clause-new t c =
+    let s = see_engine c.args.self.now in
+    let all = args-end s c.requires.whole c.args.frame c.args.site c.args.args.now c.requires.stands c.args.self.now.store.file.now.sites (see_engine c.loop-arg.self)
+    c.loop-arg.cites.items c.loop-arg.arg-index c.loop-arg.invariant c.loop-arg-test.false in
+    call-absent s c.requires.whole c.args.frame c.args.site c.args.args.now c.requires.stands (see_engine c.loop-arg.self) c.loop-arg.cites.items all (sym c.in_default.ensures)
+
+pub function-returns : goal.function-returns
+function-returns t c =
+    let s = see_engine c.args.self.now in
+    let all = args-end s c.requires.whole c.args.frame c.args.site c.args.args.now c.requires.stands c.args.self.now.store.file.now.sites (see_engine c.loop-arg.self)
+    c.loop-arg.cites.items c.loop-arg.arg-index c.loop-arg.invariant c.loop-arg-test.false in
+    IfOk-weaker c.add_call.result _ _ (λ number it.
+    call-answer s c.requires.whole c.args.frame c.args.site c.args.args.now c.requires.stands (see_engine c.loop-arg.self) c.loop-arg.cites.items all (see_engine c.add_call.new.self)
+    c.loop-arg.cites.items number it.0 refl it.1) c.add_call.ensures
 
 pub query-steps-requires : goal.query-steps-requires
 query-steps-requires t c =
@@ -329,21 +307,21 @@ steps-overflow_add-index-end t c =
     let steps = (out-Query c.args.query.now).steps in
     next-fits _ _ _ _ c.requires.last steps.ok.0 steps.ok.1 steps.small
 
-pub filter-rows_said-requires : goal.filter-rows_said-requires
-filter-rows_said-requires t c =
+pub filter-rows_said-said-requires : goal.filter-rows_said-said-requires
+filter-rows_said-said-requires t c =
     let it = tried-says (see_engine c.args.self.now) c.requires.whole c.args.step.frame c.args.step.site c.args.before (see_conds c.args.conds.now) c.requires.stands c.requires.before in
     (it.0, it.1, it.2, c.requires.before.0, it.3)
 
-pub filter-placed_candidates-requires-clause-filter : goal.filter-placed_candidates-requires-clause-filter
-filter-placed_candidates-requires-clause-filter t c =
+pub filter-candidates-requires-clause-filter : goal.filter-candidates-requires-clause-filter
+filter-candidates-requires-clause-filter t c =
     subst FiltersAt c.requires.place
     (filter-at (see_engine c.args.self.now) c.requires.whole c.args.step.frame c.args.step.site c.args.before (see_conds c.args.conds.now) c.requires.stands c.requires.before)
 
-pub filter-placed_candidates-requires-clause-known : goal.filter-placed_candidates-requires-clause-known
-filter-placed_candidates-requires-clause-known t c =
+pub filter-candidates-requires-clause-known : goal.filter-candidates-requires-clause-known
+filter-candidates-requires-clause-known t c =
     let s = see_engine c.args.self.now in
     let it = tried-says s c.requires.whole c.args.step.frame c.args.step.site c.args.before (see_conds c.args.conds.now) c.requires.stands c.requires.before in
-    ap (list_all (is_known s.known)) (c.as_slice.ensures ∙ c.in_ok-said.ensures ∙ c.rows_said.ensures it.0 it.1 it.2 c.requires.before.0 it.3)
+    ap (list_all (is_known s.known)) (c.rows_said-said.ensures it.0 it.1 it.2 c.requires.before.0 it.3)
     ∙ tried-known s c.requires.whole c.args.step.frame c.args.step.site c.args.before (see_conds c.args.conds.now) c.requires.stands c.requires.before
 
 pub filter-judge_candidates-requires : goal.filter-judge_candidates-requires
@@ -362,7 +340,7 @@ filter-add_filter-requires-clause-judged t c =
     let it = tried-says s c.requires.whole c.args.step.frame c.args.step.site c.args.before (see_conds c.args.conds.now) c.requires.stands c.requires.before in
     filter-judged s c.requires.whole c.args.step.frame c.args.step.site c.args.before (see_conds c.args.conds.now) c.requires.stands c.requires.before (see_engine c.judge_candidates.new.self)
     c.deref.result.now
-    (c.deref.ensures.value ∙ c.in_ok-tried.ensures.candidates ∙ ap (λ (o : Option Placed). candidates_of_place s.known o c.as_slice.result.now) (sym c.requires.place) ∙ ap (candidates_at s.known c.args.step.site) (c.as_slice.ensures ∙ c.in_ok-said.ensures ∙ c.rows_said.ensures it.0 it.1 it.2 c.requires.before.0 it.3))
+    (c.deref.ensures.value ∙ c.in_ok-tried.ensures.candidates ∙ ap (λ (o : Option Placed). candidates_of_place s.known o c.rows_said-said.result) (sym c.requires.place) ∙ ap (candidates_at s.known c.args.step.site) (c.rows_said-said.ensures it.0 it.1 it.2 c.requires.before.0 it.3))
     c.in_ok-judged.judged.lines.items c.in_ok-judged.judged.verdicts.items c.in_ok-judged.ensures
 
 pub filter-add_filter-requires-clause-new : goal.filter-add_filter-requires-clause-new
@@ -371,7 +349,7 @@ filter-add_filter-requires-clause-new t c =
     let it = tried-says s c.requires.whole c.args.step.frame c.args.step.site c.args.before (see_conds c.args.conds.now) c.requires.stands c.requires.before in
     filter-absent s c.requires.whole c.args.step.frame c.args.step.site c.args.before (see_conds c.args.conds.now) c.requires.stands c.requires.before (see_engine c.judge_candidates.new.self)
     c.deref.result.now
-    (c.deref.ensures.value ∙ c.in_ok-tried.ensures.candidates ∙ ap (λ (o : Option Placed). candidates_of_place s.known o c.as_slice.result.now) (sym c.requires.place) ∙ ap (candidates_at s.known c.args.step.site) (c.as_slice.ensures ∙ c.in_ok-said.ensures ∙ c.rows_said.ensures it.0 it.1 it.2 c.requires.before.0 it.3))
+    (c.deref.ensures.value ∙ c.in_ok-tried.ensures.candidates ∙ ap (λ (o : Option Placed). candidates_of_place s.known o c.rows_said-said.result) (sym c.requires.place) ∙ ap (candidates_at s.known c.args.step.site) (c.rows_said-said.ensures it.0 it.1 it.2 c.requires.before.0 it.3))
     c.in_ok-judged.judged.lines.items c.in_ok-judged.judged.verdicts.items c.in_ok-judged.ensures c.requires.new
 
 pub filter-add_filter-requires-clause-place : goal.filter-add_filter-requires-clause-place
@@ -380,7 +358,7 @@ filter-add_filter-requires-clause-place t c =
     let it = tried-says s c.requires.whole c.args.step.frame c.args.step.site c.args.before (see_conds c.args.conds.now) c.requires.stands c.requires.before in
     filter-place s c.requires.whole c.args.step.frame c.args.step.site c.args.before (see_conds c.args.conds.now) c.requires.stands c.requires.before (see_engine c.judge_candidates.new.self)
     c.deref.result.now
-    (c.deref.ensures.value ∙ c.in_ok-tried.ensures.candidates ∙ ap (λ (o : Option Placed). candidates_of_place s.known o c.as_slice.result.now) (sym c.requires.place) ∙ ap (candidates_at s.known c.args.step.site) (c.as_slice.ensures ∙ c.in_ok-said.ensures ∙ c.rows_said.ensures it.0 it.1 it.2 c.requires.before.0 it.3))
+    (c.deref.ensures.value ∙ c.in_ok-tried.ensures.candidates ∙ ap (λ (o : Option Placed). candidates_of_place s.known o c.rows_said-said.result) (sym c.requires.place) ∙ ap (candidates_at s.known c.args.step.site) (c.rows_said-said.ensures it.0 it.1 it.2 c.requires.before.0 it.3))
     c.in_ok-judged.judged.lines.items c.in_ok-judged.judged.verdicts.items c.in_ok-judged.ensures (see_place c.args.step.place) c.requires.place
 
 pub filter-returns : goal.filter-returns
@@ -390,13 +368,13 @@ filter-returns t c =
     IfOk-weaker c.add_filter.result _ _ (λ number added.
     filtered-answer s c.requires.whole c.args.step.frame c.args.step.site c.args.before (see_conds c.args.conds.now) c.requires.stands c.requires.before (see_engine c.judge_candidates.new.self)
     c.deref.result.now
-    (c.deref.ensures.value ∙ c.in_ok-tried.ensures.candidates ∙ ap (λ (o : Option Placed). candidates_of_place s.known o c.as_slice.result.now) (sym c.requires.place) ∙ ap (candidates_at s.known c.args.step.site) (c.as_slice.ensures ∙ c.in_ok-said.ensures ∙ c.rows_said.ensures it.0 it.1 it.2 c.requires.before.0 it.3))
+    (c.deref.ensures.value ∙ c.in_ok-tried.ensures.candidates ∙ ap (λ (o : Option Placed). candidates_of_place s.known o c.rows_said-said.result) (sym c.requires.place) ∙ ap (candidates_at s.known c.args.step.site) (c.rows_said-said.ensures it.0 it.1 it.2 c.requires.before.0 it.3))
     c.in_ok-judged.judged.lines.items c.in_ok-judged.judged.verdicts.items c.in_ok-judged.ensures (see_engine c.add_filter.new.self) number added.0 added.1) c.add_filter.ensures
 
 pub judge_candidates-loop-candidate-init : goal.judge_candidates-loop-candidate-init
 judge_candidates-loop-candidate-init t c =
-    candidates-start (see_engine c.args.self.now) c.requires.whole c.args.frame c.args.site (see_conds c.args.conds.now) c.requires.stands c.args.tried.now c.new-lines.result.items
-    c.new-verdicts.result.items c.new-lines.ensures.items c.new-verdicts.ensures.items
+    candidates-start (see_engine c.args.self.now) c.requires.whole c.args.frame c.args.site (see_conds c.args.conds.now) c.requires.stands c.args.tried.now c.new-judged.result.lines.items
+    c.new-judged.result.verdicts.items c.new-judged.ensures.lines c.new-judged.ensures.verdicts
 
 pub judge_candidates-enter_scope-requires-clause-whole : goal.judge_candidates-enter_scope-requires-clause-whole
 judge_candidates-enter_scope-requires-clause-whole t c = c.loop-candidate.invariant.0.whole
@@ -404,12 +382,12 @@ judge_candidates-enter_scope-requires-clause-whole t c = c.loop-candidate.invari
 pub judge_candidates-enter_scope-requires-clause-scope : goal.judge_candidates-enter_scope-requires-clause-scope
 judge_candidates-enter_scope-requires-clause-scope t c =
     candidate-may (see_engine c.args.self.now) c.requires.whole c.args.frame c.args.site (see_conds c.args.conds.now) c.requires.stands c.args.self.now.store.file.now.sites
-    (see_engine c.loop-candidate.self) c.args.tried.now c.loop-candidate.candidate-index c.loop-candidate.lines.items c.loop-candidate.verdicts.items c.loop-candidate.invariant
+    (see_engine c.loop-candidate.self) c.args.tried.now c.loop-candidate.candidate-index c.loop-candidate.judged.lines.items c.loop-candidate.judged.verdicts.items c.loop-candidate.invariant
 
 pub judge_candidates-returns : goal.judge_candidates-returns
 judge_candidates-returns t c =
     candidates-end (see_engine c.args.self.now) c.requires.whole c.args.frame c.args.site (see_conds c.args.conds.now) c.requires.stands (see_engine c.loop-candidate.self) c.args.tried.now
-    c.loop-candidate.candidate-index c.loop-candidate.lines.items c.loop-candidate.verdicts.items c.loop-candidate-test.false c.loop-candidate.invariant
+    c.loop-candidate.candidate-index c.loop-candidate.judged.lines.items c.loop-candidate.judged.verdicts.items c.loop-candidate-test.false c.loop-candidate.invariant
 
 pub variable-lookup-cell-requires-clause-sound : goal.variable-lookup-cell-requires-clause-sound
 variable-lookup-cell-requires-clause-sound t c =
@@ -913,7 +891,7 @@ judge_candidates-enter_scope-requires-clause-value t c =
     let i = c.loop-candidate.candidate-index in
     let v = get_or rs i root_ref in
     candidate-value s c.requires.whole c.args.frame c.args.site (see_conds c.args.conds.now) c.requires.stands c.args.self.now.store.file.now.sites (see_engine c.loop-candidate.self) rs i
-    c.loop-candidate.lines.items c.loop-candidate.verdicts.items c.loop-candidate.invariant v
+    c.loop-candidate.judged.lines.items c.loop-candidate.judged.verdicts.items c.loop-candidate.invariant v
     (all-at (is_known_ref s.known) rs i v c.requires.known c.loop-candidate-test.true (get_or_default rs i root_ref v c.loop-candidate-test.true))
 
 pub judge_candidates-conditions-requires : goal.judge_candidates-conditions-requires
@@ -924,12 +902,12 @@ judge_candidates-conditions-requires t c =
     let v = get_or rs i root_ref in
     let order = c.args.self.now.store.file.now.sites in
     let enters = c.in_ok-inner.ensures in (
-      candidate-rank s c.requires.whole c.args.frame c.args.site (see_conds c.args.conds.now) c.requires.stands order (see_engine c.loop-candidate.self) rs i c.loop-candidate.lines.items
-          c.loop-candidate.verdicts.items c.loop-candidate.invariant (see_engine c.enter_scope.new.self) v c.in_ok-inner.inner enters t c.decreases,
+      candidate-rank s c.requires.whole c.args.frame c.args.site (see_conds c.args.conds.now) c.requires.stands order (see_engine c.loop-candidate.self) rs i c.loop-candidate.judged.lines.items
+          c.loop-candidate.judged.verdicts.items c.loop-candidate.invariant (see_engine c.enter_scope.new.self) v c.in_ok-inner.inner enters t c.decreases,
       (
         enters.evaluates.whole,
-        conditions-there s c.requires.whole c.args.frame c.args.site (see_conds c.args.conds.now) c.requires.stands order (see_engine c.loop-candidate.self) rs i c.loop-candidate.lines.items
-            c.loop-candidate.verdicts.items c.loop-candidate.invariant (see_engine c.enter_scope.new.self) v c.in_ok-inner.inner enters,
+        conditions-there s c.requires.whole c.args.frame c.args.site (see_conds c.args.conds.now) c.requires.stands order (see_engine c.loop-candidate.self) rs i c.loop-candidate.judged.lines.items
+            c.loop-candidate.judged.verdicts.items c.loop-candidate.invariant (see_engine c.enter_scope.new.self) v c.in_ok-inner.inner enters,
       ),
     )
 
@@ -940,10 +918,10 @@ judge_candidates-loop-candidate-preserved t c =
     let i = c.loop-candidate.candidate-index in
     let v = get_or rs i root_ref in
     let order = c.args.self.now.store.file.now.sites in
-    candidate-next s c.requires.whole c.args.frame c.args.site (see_conds c.args.conds.now) c.requires.stands order (see_engine c.loop-candidate.self) rs i c.loop-candidate.lines.items
-    c.loop-candidate.verdicts.items c.loop-candidate.invariant (see_engine c.enter_scope.new.self) v c.in_ok-inner.inner c.in_ok-inner.ensures (see_engine c.conditions.new.self)
-    c.in_ok-said.said.line c.in_ok-said.said.verdict c.push.new.self.items c.push-in-loop-candidate.new.self.items c.loop-candidate-test.true
-    (get_or_default rs i root_ref v c.loop-candidate-test.true) c.in_ok-said.ensures c.in_ok-push.ensures.items c.in_ok-push-2.ensures.items
+    candidate-next s c.requires.whole c.args.frame c.args.site (see_conds c.args.conds.now) c.requires.stands order (see_engine c.loop-candidate.self) rs i c.loop-candidate.judged.lines.items
+    c.loop-candidate.judged.verdicts.items c.loop-candidate.invariant (see_engine c.enter_scope.new.self) v c.in_ok-inner.inner c.in_ok-inner.ensures (see_engine c.conditions.new.self)
+    c.in_ok-said.said.line c.in_ok-said.said.verdict c.note.new.self.lines.items c.note.new.self.verdicts.items c.loop-candidate-test.true
+    (get_or_default rs i root_ref v c.loop-candidate-test.true) c.in_ok-said.ensures c.in_ok-note.ensures.lines c.in_ok-note.ensures.verdicts
 
 pub steps-returns : goal.steps-returns
 steps-returns t c =
@@ -973,85 +951,29 @@ steps-unreachable-requires t c =
     steps-some b c.args.frame q c.args.last i (at-end i c.args.last c.loop-index-test.false (c.loop-index.auto.index-end (first-most _ _ c.begun-first.ensures.first)))
     (subst (λ o. GivesStepBefore b c.args.frame q i o) c.in_default.is c.loop-index.invariant.before)
 
-pub argument-bounds-as_slice-frame : goal.argument-bounds-as_slice-frame
-argument-bounds-as_slice-frame t c =
-    let s = see_engine c.args.self.now in
+pub argument-argument_given-caller-requires : goal.argument-argument_given-caller-requires
+argument-argument_given-caller-requires t c =
     let it = c.requires.stands in
-    subst (λ fs. c.args.frame < length fs) (sym c.as_slice.ensures.keys) (slice_get_within s.frames c.args.frame (record { parent = Some it.0; site = it.1; current = it.2 }) it.5)
-
-pub argument-unreachable-requires : goal.argument-unreachable-requires
-argument-unreachable-requires t c = param-parent (see_engine c.args.self.now) c.args.frame c.args.index c.requires.stands c.as_slice.result.now c.as_slice.ensures.keys _ c.in_default.is
-
-pub argument-unreachable-requires-in_default-find : goal.argument-unreachable-requires-in_default-find
-argument-unreachable-requires-in_default-find t c = param-find (see_engine c.args.self.now) c.args.frame c.args.index c.requires.stands c.as_slice.result.now c.as_slice.ensures.keys _ _ (ap file_of c.args.self.now.store_over) c.in_default-find.ensures
-
-pub argument-unreachable-requires-in_default-piece : goal.argument-unreachable-requires-in_default-piece
-argument-unreachable-requires-in_default-piece t c =
-    part-only c.in-Some-find.piece c.requires.stands.3 c.in_default-piece.not-Part
-    (param-piece (see_engine c.args.self.now) c.args.frame c.args.index c.requires.stands c.as_slice.result.now c.as_slice.ensures.keys _ _ (ap file_of c.args.self.now.store_over) c.in-Some-find.piece c.in-Some-find.ensures)
-
-pub argument-unreachable-requires-in-Block : goal.argument-unreachable-requires-in-Block
-argument-unreachable-requires-in-Block t c =
-    param-part (see_engine c.args.self.now) c.args.frame c.args.index c.requires.stands c.as_slice.result.now c.as_slice.ensures.keys _ _ (ap file_of c.args.self.now.store_over)
-    c.in-Some-find.piece c.in-Part.part c.in-Some-find.ensures c.in-Part.is (ap args_of_part (ap see_part c.in-Block.is ∙ block-seen c.in-Block.site c.in-Block.any c.in-Block.head c.in-Block.body))
-
-pub argument-unreachable-requires-in-When : goal.argument-unreachable-requires-in-When
-argument-unreachable-requires-in-When t c =
-    param-part (see_engine c.args.self.now) c.args.frame c.args.index c.requires.stands c.as_slice.result.now c.as_slice.ensures.keys _ _ (ap file_of c.args.self.now.store_over)
-    c.in-Some-find.piece c.in-Part.part c.in-Some-find.ensures c.in-Part.is (ap args_of_part (ap see_part c.in-When.is ∙ when-seen c.in-When.site c.in-When.cond c.in-When.body))
-
-pub argument-unreachable-requires-in-Kinds : goal.argument-unreachable-requires-in-Kinds
-argument-unreachable-requires-in-Kinds t c =
-    param-part (see_engine c.args.self.now) c.args.frame c.args.index c.requires.stands c.as_slice.result.now c.as_slice.ensures.keys _ _ (ap file_of c.args.self.now.store_over)
-    c.in-Some-find.piece c.in-Part.part c.in-Some-find.ensures c.in-Part.is (ap args_of_part (ap see_part c.in-Kinds.is ∙ kinds-seen c.in-Kinds.site c.in-Kinds.name c.in-Kinds.cond c.in-Kinds.body))
-
-pub argument-unreachable-requires-in-Test : goal.argument-unreachable-requires-in-Test
-argument-unreachable-requires-in-Test t c =
-    param-part (see_engine c.args.self.now) c.args.frame c.args.index c.requires.stands c.as_slice.result.now c.as_slice.ensures.keys _ _ (ap file_of c.args.self.now.store_over)
-    c.in-Some-find.piece c.in-Part.part c.in-Some-find.ensures c.in-Part.is (ap args_of_part (ap see_part c.in-Test.is ∙ test-seen c.in-Test.site c.in-Test.any c.in-Test.left c.in-Test.op c.in-Test.not c.in-Test.right c.in-Test.note))
-
-pub argument-unreachable-requires-in-Refer : goal.argument-unreachable-requires-in-Refer
-argument-unreachable-requires-in-Refer t c =
-    param-part (see_engine c.args.self.now) c.args.frame c.args.index c.requires.stands c.as_slice.result.now c.as_slice.ensures.keys _ _ (ap file_of c.args.self.now.store_over)
-    c.in-Some-find.piece c.in-Part.part c.in-Some-find.ensures c.in-Part.is (ap args_of_part (ap see_part c.in-Refer.is ∙ refer-seen c.in-Refer.site c.in-Refer.not c.in-Refer.name c.in-Refer.note))
-
-pub argument-index-requires : goal.argument-index-requires
-argument-index-requires t c =
-    let are =
-    param-are (see_engine c.args.self.now) c.args.frame c.args.index c.requires.stands c.as_slice.result.now c.as_slice.ensures.keys _ _ (ap file_of c.args.self.now.store_over) c.in-Some-find.piece c.in-Part.part
-    c.in-Call.site c.in-Call.not c.in-Call.name c.in-Call.args c.in-Call.note c.in-Some-find.ensures c.in-Part.is c.in-Call.is in
-    subst (λ n. c.args.index < n) (sym c.in-Call.args.ok.0) (param-within (see_engine c.args.self.now) c.requires.whole c.args.frame c.args.index c.requires.stands c.in-Call.args.items are)
+    (it.0, it.4, param-given (see_engine c.args.self.now) c.args.frame c.args.index it _ (ap file_of c.args.self.now.store_over) c.as_slice-entered.result.now c.as_slice-entered.ensures.keys)
 
 pub argument-expression-requires : goal.argument-expression-requires
 argument-expression-requires t c =
     let s = see_engine c.args.self.now in
-    let x = c.index.result.now in
-    let are =
-    param-are (see_engine c.args.self.now) c.args.frame c.args.index c.requires.stands c.as_slice.result.now c.as_slice.ensures.keys _ _ (ap file_of c.args.self.now.store_over) c.in-Some-find.piece c.in-Part.part
-    c.in-Call.site c.in-Call.not c.in-Call.name c.in-Call.args c.in-Call.note c.in-Some-find.ensures c.in-Part.is c.in-Call.is in
-    let caller = param-caller (see_engine c.args.self.now) c.args.frame c.args.index c.requires.stands c.as_slice.result.now c.as_slice.ensures.keys _ c.in-Some.caller c.in-Some.is in (
-      subst (λ n. rank_in s n (expr_sited (see_expr x)).0 5 < t) caller
-          (param-arg-rank s c.requires.whole c.args.frame c.args.index c.requires.stands c.in-Call.args.items are x c.index.ensures t c.decreases),
-      (
-        c.requires.whole,
-        subst (λ n. StandsIn s n (expr_sited (see_expr x))) caller
-            (param-arg-stands s c.requires.whole c.args.frame c.args.index c.requires.stands c.in-Call.args.items are x c.index.ensures),
-      ),
+    let it = c.requires.stands in
+    let of = c.argument_given-caller.ensures it.0 it.4 (param-given s c.args.frame c.args.index it _ (ap file_of c.args.self.now.store_over) c.as_slice-entered.result.now c.as_slice-entered.ensures.keys) in (
+      param-arg-rank s c.requires.whole c.args.frame c.args.index it c.argument_given-caller.result.0 (see_expr c.argument_given-caller.result.1.now) of.0 of.1 t c.decreases,
+      (c.requires.whole, param-arg-stands s c.requires.whole c.args.frame c.args.index it c.argument_given-caller.result.0 (see_expr c.argument_given-caller.result.1.now) of.0 of.1),
     )
 
 pub argument-returns : goal.argument-returns
 argument-returns t c =
     let s = see_engine c.args.self.now in
-    let b = see_engine c.expression.new.self in
-    let x = c.index.result.now in
-    let are =
-    param-are (see_engine c.args.self.now) c.args.frame c.args.index c.requires.stands c.as_slice.result.now c.as_slice.ensures.keys _ _ (ap file_of c.args.self.now.store_over) c.in-Some-find.piece c.in-Part.part
-    c.in-Call.site c.in-Call.not c.in-Call.name c.in-Call.args c.in-Call.note c.in-Some-find.ensures c.in-Part.is c.in-Call.is in
-    let caller = param-caller (see_engine c.args.self.now) c.args.frame c.args.index c.requires.stands c.as_slice.result.now c.as_slice.ensures.keys _ c.in-Some.caller c.in-Some.is in
-    IfOk-weaker c.expression.result _ _ (λ number it.
-    let here = c.requires.whole.framed c.args.frame _ c.requires.stands.5 in
-    param-arg-answer s c.requires.whole c.args.frame c.args.index c.requires.stands c.in-Call.args.items are x c.index.ensures b number here.0 here.1
-    (subst (λ n. AnswersExpr s b n (see_expr x) number) (sym caller) it)) c.expression.ensures
+    let it = c.requires.stands in
+    let of = c.argument_given-caller.ensures it.0 it.4 (param-given s c.args.frame c.args.index it _ (ap file_of c.args.self.now.store_over) c.as_slice-entered.result.now c.as_slice-entered.ensures.keys) in
+    let here = c.requires.whole.framed c.args.frame _ it.5 in
+    IfOk-weaker c.expression.result _ _ (λ number answers.
+    param-arg-answer s c.requires.whole c.args.frame c.args.index it c.argument_given-caller.result.0 (see_expr c.argument_given-caller.result.1.now) of.0 of.1 (see_engine c.expression.new.self) number
+    here.0 here.1 answers) c.expression.ensures
 
 -- Verdicts, and parts by their kinds.
 
@@ -1433,7 +1355,7 @@ call-add_verdict-requires-clause-adds t c =
     called-adds (see_engine c.args.self.now) (see_engine c.enter_scope.new.self) c.requires.whole c.args.self.now.store.file.now.named c.args.self.now.store.file.now.sites c.args.frame c.args.site
     c.args.not c.requires.stands c.current-current.result c.in_ok-inner.inner c.in_ok-inner.ensures c.called_body-body.result.now (file_of c.args.self.now.file.now)
     (ap file_of c.args.self.now.store_over) c.called_body-body.ensures (see_engine c.conjunction.new.self) c.in_ok-said.said.line c.in_ok-said.said.verdict c.in_ok-said.ensures
-    c.exchange-verdict.result c.exchange-verdict.ensures c.push.new.self.items (c.in_ok-push.ensures.items ∙ ap (λ (ns : List ℕ). ns ++ c.in_ok-said.said.line ∷ []) c.new-lines.ensures.items)
+    c.exchange-verdict.result c.exchange-verdict.ensures c.in_ok-lines.lines.items c.in_ok-lines.ensures
 
 pub call-add_verdict-requires-clause-new : goal.call-add_verdict-requires-clause-new
 call-add_verdict-requires-clause-new t c =
@@ -1446,8 +1368,8 @@ call-returns t c =
     IfOk-weaker c.add_verdict.result _ _ (λ said added. called-answer (see_engine c.args.self.now) (see_engine c.enter_scope.new.self) c.requires.whole c.args.self.now.store.file.now.named
     c.args.self.now.store.file.now.sites c.args.frame c.args.site c.args.not c.requires.stands c.current-current.result c.in_ok-inner.inner c.in_ok-inner.ensures c.called_body-body.result.now
     (file_of c.args.self.now.file.now) (ap file_of c.args.self.now.store_over) c.called_body-body.ensures (see_engine c.conjunction.new.self) c.in_ok-said.said.line c.in_ok-said.said.verdict
-    c.in_ok-said.ensures (see_engine c.add_verdict.new.self) c.push.new.self.items c.exchange-verdict.result said.line said.verdict
-    (c.in_ok-push.ensures.items ∙ ap (λ (ns : List ℕ). ns ++ c.in_ok-said.said.line ∷ []) c.new-lines.ensures.items) added) c.add_verdict.ensures
+    c.in_ok-said.ensures (see_engine c.add_verdict.new.self) c.in_ok-lines.lines.items c.exchange-verdict.result said.line said.verdict
+    c.in_ok-lines.ensures added) c.add_verdict.ensures
 
 pub guarded-conditions-requires : goal.guarded-conditions-requires
 guarded-conditions-requires t c =
@@ -1463,8 +1385,8 @@ pub guarded-add_verdict-requires-clause-adds : goal.guarded-add_verdict-requires
 guarded-add_verdict-requires-clause-adds t c =
     unguarded-adds (see_engine c.args.self.now) (see_engine c.conditions.new.self) c.requires.whole c.args.self.now.store.file.now.sites c.args.frame c.args.site (see_conds c.args.cond.now)
     (see_body c.args.body.now) c.requires.stands c.in_ok-conditions.conditions.line c.in_ok-conditions.conditions.verdict c.in_ok-conditions.ensures
-    (sym c.is_pass.ensures ∙ c.if-not-is_pass.true) c.push.new.self.items
-    (c.in_ok-push.ensures.items ∙ ap (λ (ns : List ℕ). ns ++ c.in_ok-conditions.conditions.line ∷ []) c.new-lines.ensures.items)
+    (sym c.is_pass.ensures ∙ c.if-not-is_pass.true) c.in_ok-lines.lines.items
+    c.in_ok-lines.ensures
 
 pub guarded-add_verdict-requires-clause-new : goal.guarded-add_verdict-requires-clause-new
 guarded-add_verdict-requires-clause-new t c =
@@ -1475,8 +1397,8 @@ pub guarded-returns-then-not-is_pass : goal.guarded-returns-then-not-is_pass
 guarded-returns-then-not-is_pass t c =
     IfOk-weaker c.add_verdict.result _ _ (λ said added. unguarded-answer (see_engine c.args.self.now) (see_engine c.conditions.new.self) c.requires.whole
     c.args.self.now.store.file.now.sites c.args.frame c.args.site (see_conds c.args.cond.now) (see_body c.args.body.now) c.requires.stands c.in_ok-conditions.conditions.line
-    c.in_ok-conditions.conditions.verdict c.in_ok-conditions.ensures (see_engine c.add_verdict.new.self) c.push.new.self.items Skip said.line said.verdict
-    (c.in_ok-push.ensures.items ∙ ap (λ (ns : List ℕ). ns ++ c.in_ok-conditions.conditions.line ∷ []) c.new-lines.ensures.items) added) c.add_verdict.ensures
+    c.in_ok-conditions.conditions.verdict c.in_ok-conditions.ensures (see_engine c.add_verdict.new.self) c.in_ok-lines.lines.items Skip said.line said.verdict
+    c.in_ok-lines.ensures added) c.add_verdict.ensures
 
 pub guarded-current-current-requires : goal.guarded-current-current-requires
 guarded-current-current-requires t c =
@@ -1496,8 +1418,8 @@ guarded-add_verdict-requires-2-clause-kind t c =
 
 pub guarded-add_verdict-requires-2-clause-adds : goal.guarded-add_verdict-requires-2-clause-adds
 guarded-add_verdict-requires-2-clause-adds t c =
-    guarded-adds (see_engine c.args.self.now) (see_engine c.conditions.new.self) c.requires.whole c.args.self.now.store.file.now.sites c.args.frame c.args.site (see_conds c.args.cond.now) (see_body c.args.body.now) c.requires.stands c.in_ok-conditions.conditions.line c.in_ok-conditions.conditions.verdict c.in_ok-conditions.ensures c.current-current.result (see_engine c.body_at.new.self) c.in_ok-said.said.line c.in_ok-said.said.verdict c.in_ok-said.ensures (sym c.is_pass.ensures ∙ c.if-not-is_pass.false) c.push-2.new.self.items
-    (c.in_ok-push-2.ensures.items ∙ ap (λ (ns : List ℕ). ns ++ c.in_ok-said.said.line ∷ []) (c.in_ok-push.ensures.items ∙ ap (λ (ns : List ℕ). ns ++ c.in_ok-conditions.conditions.line ∷ []) c.new-lines.ensures.items))
+    guarded-adds (see_engine c.args.self.now) (see_engine c.conditions.new.self) c.requires.whole c.args.self.now.store.file.now.sites c.args.frame c.args.site (see_conds c.args.cond.now) (see_body c.args.body.now) c.requires.stands c.in_ok-conditions.conditions.line c.in_ok-conditions.conditions.verdict c.in_ok-conditions.ensures c.current-current.result (see_engine c.body_at.new.self) c.in_ok-said.said.line c.in_ok-said.said.verdict c.in_ok-said.ensures (sym c.is_pass.ensures ∙ c.if-not-is_pass.false) c.in_ok-cites.cites.items
+    c.in_ok-cites.ensures
 
 pub guarded-add_verdict-requires-2-clause-new : goal.guarded-add_verdict-requires-2-clause-new
 guarded-add_verdict-requires-2-clause-new t c =
@@ -1505,7 +1427,7 @@ guarded-add_verdict-requires-2-clause-new t c =
 
 pub guarded-returns : goal.guarded-returns
 guarded-returns t c =
-    IfOk-weaker c.add_verdict-2.result _ _ (λ said added. guarded-answer (see_engine c.args.self.now) (see_engine c.conditions.new.self) c.requires.whole c.args.self.now.store.file.now.sites c.args.frame c.args.site (see_conds c.args.cond.now) (see_body c.args.body.now) c.requires.stands c.in_ok-conditions.conditions.line c.in_ok-conditions.conditions.verdict c.in_ok-conditions.ensures c.current-current.result (see_engine c.body_at.new.self) c.in_ok-said.said.line c.in_ok-said.said.verdict c.in_ok-said.ensures (see_engine c.add_verdict-2.new.self) c.push-2.new.self.items said.line said.verdict (c.in_ok-push-2.ensures.items ∙ ap (λ (ns : List ℕ). ns ++ c.in_ok-said.said.line ∷ []) (c.in_ok-push.ensures.items ∙ ap (λ (ns : List ℕ). ns ++ c.in_ok-conditions.conditions.line ∷ []) c.new-lines.ensures.items)) added) c.add_verdict-2.ensures
+    IfOk-weaker c.add_verdict-2.result _ _ (λ said added. guarded-answer (see_engine c.args.self.now) (see_engine c.conditions.new.self) c.requires.whole c.args.self.now.store.file.now.sites c.args.frame c.args.site (see_conds c.args.cond.now) (see_body c.args.body.now) c.requires.stands c.in_ok-conditions.conditions.line c.in_ok-conditions.conditions.verdict c.in_ok-conditions.ensures c.current-current.result (see_engine c.body_at.new.self) c.in_ok-said.said.line c.in_ok-said.said.verdict c.in_ok-said.ensures (see_engine c.add_verdict-2.new.self) c.in_ok-cites.cites.items said.line said.verdict c.in_ok-cites.ensures added) c.add_verdict-2.ensures
 
 pub block-query-requires : goal.block-query-requires
 block-query-requires t c =
@@ -1529,8 +1451,8 @@ block-add_verdict-requires-clause-kind t c =
 
 pub block-add_verdict-requires-clause-adds : goal.block-add_verdict-requires-clause-adds
 block-add_verdict-requires-clause-adds t c =
-    block-adds (see_engine c.args.self.now) (see_engine c.query.new.self) c.requires.whole c.args.self.now.store.file.now.sites c.args.frame c.args.head.site c.args.head.any (see_query c.args.head.query.now) (see_body c.args.body.now) c.requires.stands c.in_ok-line.line c.in_ok-line.ensures c.deref.result.now (c.deref.ensures.value ∙ (c.in_ok-rows.ensures ∙ query-told (see_engine c.args.self.now) (see_engine c.query.new.self) c.args.frame (see_query c.args.head.query.now) c.in_ok-line.line c.in_ok-line.ensures c.rows_said.result c.rows_said.ensures)) (see_engine c.bodies.new.self) c.in_ok-cited.cited.lines.items c.in_ok-cited.cited.verdict c.in_ok-cited.ensures c.append.new.self.items
-    (c.in_ok-append.ensures.items ∙ ap (λ (ns : List ℕ). ns ++ c.in_ok-cited.cited.lines.items) (c.in_ok-push.ensures.items ∙ ap (λ (ns : List ℕ). ns ++ c.in_ok-line.line ∷ []) c.new-lines.ensures.items))
+    block-adds (see_engine c.args.self.now) (see_engine c.query.new.self) c.requires.whole c.args.self.now.store.file.now.sites c.args.frame c.args.head.site c.args.head.any (see_query c.args.head.query.now) (see_body c.args.body.now) c.requires.stands c.in_ok-line.line c.in_ok-line.ensures c.deref.result.now (c.deref.ensures.value ∙ (c.in_ok-rows.ensures ∙ query-told (see_engine c.args.self.now) (see_engine c.query.new.self) c.args.frame (see_query c.args.head.query.now) c.in_ok-line.line c.in_ok-line.ensures c.rows_said.result c.rows_said.ensures)) (see_engine c.bodies.new.self) c.in_ok-cited.cited.lines.items c.in_ok-cited.cited.verdict c.in_ok-cited.ensures c.in_ok-lines.lines.items
+    c.in_ok-lines.ensures
 
 pub block-add_verdict-requires-clause-new : goal.block-add_verdict-requires-clause-new
 block-add_verdict-requires-clause-new t c =
@@ -1538,7 +1460,7 @@ block-add_verdict-requires-clause-new t c =
 
 pub block-returns : goal.block-returns
 block-returns t c =
-    IfOk-weaker c.add_verdict.result _ _ (λ said added. block-answer (see_engine c.args.self.now) (see_engine c.query.new.self) c.requires.whole c.args.self.now.store.file.now.sites c.args.frame c.args.head.site c.args.head.any (see_query c.args.head.query.now) (see_body c.args.body.now) c.requires.stands c.in_ok-line.line c.in_ok-line.ensures c.deref.result.now (c.deref.ensures.value ∙ (c.in_ok-rows.ensures ∙ query-told (see_engine c.args.self.now) (see_engine c.query.new.self) c.args.frame (see_query c.args.head.query.now) c.in_ok-line.line c.in_ok-line.ensures c.rows_said.result c.rows_said.ensures)) (see_engine c.bodies.new.self) c.in_ok-cited.cited.lines.items c.in_ok-cited.cited.verdict c.in_ok-cited.ensures (see_engine c.add_verdict.new.self) c.append.new.self.items said.line said.verdict (c.in_ok-append.ensures.items ∙ ap (λ (ns : List ℕ). ns ++ c.in_ok-cited.cited.lines.items) (c.in_ok-push.ensures.items ∙ ap (λ (ns : List ℕ). ns ++ c.in_ok-line.line ∷ []) c.new-lines.ensures.items)) added) c.add_verdict.ensures
+    IfOk-weaker c.add_verdict.result _ _ (λ said added. block-answer (see_engine c.args.self.now) (see_engine c.query.new.self) c.requires.whole c.args.self.now.store.file.now.sites c.args.frame c.args.head.site c.args.head.any (see_query c.args.head.query.now) (see_body c.args.body.now) c.requires.stands c.in_ok-line.line c.in_ok-line.ensures c.deref.result.now (c.deref.ensures.value ∙ (c.in_ok-rows.ensures ∙ query-told (see_engine c.args.self.now) (see_engine c.query.new.self) c.args.frame (see_query c.args.head.query.now) c.in_ok-line.line c.in_ok-line.ensures c.rows_said.result c.rows_said.ensures)) (see_engine c.bodies.new.self) c.in_ok-cited.cited.lines.items c.in_ok-cited.cited.verdict c.in_ok-cited.ensures (see_engine c.add_verdict.new.self) c.in_ok-lines.lines.items said.line said.verdict c.in_ok-lines.ensures added) c.add_verdict.ensures
 
 pub kinds-typed-requires : goal.kinds-typed-requires
 kinds-typed-requires t c =
@@ -1574,7 +1496,7 @@ kinds-add_verdict-requires-then-not-is_pass-clause-kind t c =
 
 pub kinds-add_verdict-requires-then-not-is_pass-clause-adds : goal.kinds-add_verdict-requires-then-not-is_pass-clause-adds
 kinds-add_verdict-requires-then-not-is_pass-clause-adds t c =
-    unmet-type-adds (see_engine c.args.self.now) (see_engine c.conditions.new.self) c.requires.whole c.args.self.now.store.file.now.sites c.args.frame c.args.site (see_conds c.in-Some.cond) (see_body c.args.body.now) (subst (λ (o : Option Conds). IsKinds (see_engine c.args.self.now) c.args.frame c.args.site (see_opt_conds o) (see_body c.args.body.now)) c.in-Some.is c.requires.stands) c.in_ok-conditions.conditions.line c.in_ok-conditions.conditions.verdict c.in_ok-conditions.ensures (sym c.is_pass.ensures ∙ c.if-not-is_pass.true) c.push.new.self.items (c.in_ok-push.ensures.items ∙ ap (λ (ns : List ℕ). ns ++ c.in_ok-conditions.conditions.line ∷ []) c.new-lines.ensures.items)
+    unmet-type-adds (see_engine c.args.self.now) (see_engine c.conditions.new.self) c.requires.whole c.args.self.now.store.file.now.sites c.args.frame c.args.site (see_conds c.in-Some.cond) (see_body c.args.body.now) (subst (λ (o : Option Conds). IsKinds (see_engine c.args.self.now) c.args.frame c.args.site (see_opt_conds o) (see_body c.args.body.now)) c.in-Some.is c.requires.stands) c.in_ok-conditions.conditions.line c.in_ok-conditions.conditions.verdict c.in_ok-conditions.ensures (sym c.is_pass.ensures ∙ c.if-not-is_pass.true) c.in_ok-lines.lines.items c.in_ok-lines.ensures
 
 pub kinds-add_verdict-requires-then-not-is_pass-clause-new : goal.kinds-add_verdict-requires-then-not-is_pass-clause-new
 kinds-add_verdict-requires-then-not-is_pass-clause-new t c =
@@ -1582,7 +1504,7 @@ kinds-add_verdict-requires-then-not-is_pass-clause-new t c =
 
 pub kinds-returns-then-not-is_pass : goal.kinds-returns-then-not-is_pass
 kinds-returns-then-not-is_pass t c =
-    IfOk-weaker c.add_verdict-then-not-is_pass.result _ _ (λ said added. unmet-type-answer (see_engine c.args.self.now) (see_engine c.conditions.new.self) c.requires.whole c.args.self.now.store.file.now.sites c.args.frame c.args.site (see_conds c.in-Some.cond) (see_body c.args.body.now) (subst (λ (o : Option Conds). IsKinds (see_engine c.args.self.now) c.args.frame c.args.site (see_opt_conds o) (see_body c.args.body.now)) c.in-Some.is c.requires.stands) c.in_ok-conditions.conditions.line c.in_ok-conditions.conditions.verdict c.in_ok-conditions.ensures (see_engine c.add_verdict-then-not-is_pass.new.self) c.push.new.self.items Skip said.line said.verdict (c.in_ok-push.ensures.items ∙ ap (λ (ns : List ℕ). ns ++ c.in_ok-conditions.conditions.line ∷ []) c.new-lines.ensures.items) added) c.add_verdict-then-not-is_pass.ensures
+    IfOk-weaker c.add_verdict-then-not-is_pass.result _ _ (λ said added. unmet-type-answer (see_engine c.args.self.now) (see_engine c.conditions.new.self) c.requires.whole c.args.self.now.store.file.now.sites c.args.frame c.args.site (see_conds c.in-Some.cond) (see_body c.args.body.now) (subst (λ (o : Option Conds). IsKinds (see_engine c.args.self.now) c.args.frame c.args.site (see_opt_conds o) (see_body c.args.body.now)) c.in-Some.is c.requires.stands) c.in_ok-conditions.conditions.line c.in_ok-conditions.conditions.verdict c.in_ok-conditions.ensures (see_engine c.add_verdict-then-not-is_pass.new.self) c.in_ok-lines.lines.items Skip said.line said.verdict c.in_ok-lines.ensures added) c.add_verdict-then-not-is_pass.ensures
 
 pub kinds-typed-requires-2 : goal.kinds-typed-requires-2
 kinds-typed-requires-2 t c =
@@ -1590,23 +1512,23 @@ kinds-typed-requires-2 t c =
 
 pub kinds-add_verdict-requires-2-clause-whole : goal.kinds-add_verdict-requires-2-clause-whole
 kinds-add_verdict-requires-2-clause-whole t c =
-    met-type-whole (see_engine c.args.self.now) (see_engine c.conditions.new.self) c.requires.whole c.args.self.now.store.file.now.sites c.args.frame c.args.site (see_conds c.in-Some.cond) (see_body c.args.body.now) (subst (λ (o : Option Conds). IsKinds (see_engine c.args.self.now) c.args.frame c.args.site (see_opt_conds o) (see_body c.args.body.now)) c.in-Some.is c.requires.stands) c.in_ok-conditions.conditions.line c.in_ok-conditions.conditions.verdict c.in_ok-conditions.ensures (see_engine c.typed-2.new.self) c.in_ok-cited-2.cited.lines.items c.in_ok-cited-2.cited.verdict c.in_ok-cited-2.ensures
+    met-type-whole (see_engine c.args.self.now) (see_engine c.conditions.new.self) c.requires.whole c.args.self.now.store.file.now.sites c.args.frame c.args.site (see_conds c.in-Some.cond) (see_body c.args.body.now) (subst (λ (o : Option Conds). IsKinds (see_engine c.args.self.now) c.args.frame c.args.site (see_opt_conds o) (see_body c.args.body.now)) c.in-Some.is c.requires.stands) c.in_ok-conditions.conditions.line c.in_ok-conditions.conditions.verdict c.in_ok-conditions.ensures (see_engine c.typed-2.new.self) c.in_ok-typed.typed.lines.items c.in_ok-typed.typed.verdict c.in_ok-typed.ensures
 
 pub kinds-add_verdict-requires-2-clause-kind : goal.kinds-add_verdict-requires-2-clause-kind
 kinds-add_verdict-requires-2-clause-kind t c =
-    met-type-kind (see_engine c.args.self.now) (see_engine c.conditions.new.self) c.requires.whole c.args.self.now.store.file.now.sites c.args.frame c.args.site (see_conds c.in-Some.cond) (see_body c.args.body.now) (subst (λ (o : Option Conds). IsKinds (see_engine c.args.self.now) c.args.frame c.args.site (see_opt_conds o) (see_body c.args.body.now)) c.in-Some.is c.requires.stands) c.in_ok-conditions.conditions.line c.in_ok-conditions.conditions.verdict c.in_ok-conditions.ensures (see_engine c.typed-2.new.self) c.in_ok-cited-2.cited.lines.items c.in_ok-cited-2.cited.verdict c.in_ok-cited-2.ensures
+    met-type-kind (see_engine c.args.self.now) (see_engine c.conditions.new.self) c.requires.whole c.args.self.now.store.file.now.sites c.args.frame c.args.site (see_conds c.in-Some.cond) (see_body c.args.body.now) (subst (λ (o : Option Conds). IsKinds (see_engine c.args.self.now) c.args.frame c.args.site (see_opt_conds o) (see_body c.args.body.now)) c.in-Some.is c.requires.stands) c.in_ok-conditions.conditions.line c.in_ok-conditions.conditions.verdict c.in_ok-conditions.ensures (see_engine c.typed-2.new.self) c.in_ok-typed.typed.lines.items c.in_ok-typed.typed.verdict c.in_ok-typed.ensures
 
 pub kinds-add_verdict-requires-2-clause-adds : goal.kinds-add_verdict-requires-2-clause-adds
 kinds-add_verdict-requires-2-clause-adds t c =
-    met-type-adds (see_engine c.args.self.now) (see_engine c.conditions.new.self) c.requires.whole c.args.self.now.store.file.now.sites c.args.frame c.args.site (see_conds c.in-Some.cond) (see_body c.args.body.now) (subst (λ (o : Option Conds). IsKinds (see_engine c.args.self.now) c.args.frame c.args.site (see_opt_conds o) (see_body c.args.body.now)) c.in-Some.is c.requires.stands) c.in_ok-conditions.conditions.line c.in_ok-conditions.conditions.verdict c.in_ok-conditions.ensures (see_engine c.typed-2.new.self) c.in_ok-cited-2.cited.lines.items c.in_ok-cited-2.cited.verdict c.in_ok-cited-2.ensures (sym c.is_pass.ensures ∙ c.if-not-is_pass.false) c.append.new.self.items (c.in_ok-append.ensures.items ∙ ap (λ (ns : List ℕ). ns ++ c.in_ok-cited-2.cited.lines.items) (c.in_ok-push.ensures.items ∙ ap (λ (ns : List ℕ). ns ++ c.in_ok-conditions.conditions.line ∷ []) c.new-lines.ensures.items))
+    met-type-adds (see_engine c.args.self.now) (see_engine c.conditions.new.self) c.requires.whole c.args.self.now.store.file.now.sites c.args.frame c.args.site (see_conds c.in-Some.cond) (see_body c.args.body.now) (subst (λ (o : Option Conds). IsKinds (see_engine c.args.self.now) c.args.frame c.args.site (see_opt_conds o) (see_body c.args.body.now)) c.in-Some.is c.requires.stands) c.in_ok-conditions.conditions.line c.in_ok-conditions.conditions.verdict c.in_ok-conditions.ensures (see_engine c.typed-2.new.self) c.in_ok-typed.typed.lines.items c.in_ok-typed.typed.verdict c.in_ok-typed.ensures (sym c.is_pass.ensures ∙ c.if-not-is_pass.false) c.in_ok-cites.cites.items c.in_ok-cites.ensures
 
 pub kinds-add_verdict-requires-2-clause-new : goal.kinds-add_verdict-requires-2-clause-new
 kinds-add_verdict-requires-2-clause-new t c =
-    met-type-new (see_engine c.args.self.now) (see_engine c.conditions.new.self) c.requires.whole c.args.self.now.store.file.now.sites c.args.frame c.args.site (see_conds c.in-Some.cond) (see_body c.args.body.now) (subst (λ (o : Option Conds). IsKinds (see_engine c.args.self.now) c.args.frame c.args.site (see_opt_conds o) (see_body c.args.body.now)) c.in-Some.is c.requires.stands) c.in_ok-conditions.conditions.line c.in_ok-conditions.conditions.verdict c.in_ok-conditions.ensures (see_engine c.typed-2.new.self) c.in_ok-cited-2.cited.lines.items c.in_ok-cited-2.cited.verdict c.in_ok-cited-2.ensures c.requires.new
+    met-type-new (see_engine c.args.self.now) (see_engine c.conditions.new.self) c.requires.whole c.args.self.now.store.file.now.sites c.args.frame c.args.site (see_conds c.in-Some.cond) (see_body c.args.body.now) (subst (λ (o : Option Conds). IsKinds (see_engine c.args.self.now) c.args.frame c.args.site (see_opt_conds o) (see_body c.args.body.now)) c.in-Some.is c.requires.stands) c.in_ok-conditions.conditions.line c.in_ok-conditions.conditions.verdict c.in_ok-conditions.ensures (see_engine c.typed-2.new.self) c.in_ok-typed.typed.lines.items c.in_ok-typed.typed.verdict c.in_ok-typed.ensures c.requires.new
 
 pub kinds-returns : goal.kinds-returns
 kinds-returns t c =
-    IfOk-weaker c.add_verdict-2.result _ _ (λ said added. met-type-answer (see_engine c.args.self.now) (see_engine c.conditions.new.self) c.requires.whole c.args.self.now.store.file.now.sites c.args.frame c.args.site (see_conds c.in-Some.cond) (see_body c.args.body.now) (subst (λ (o : Option Conds). IsKinds (see_engine c.args.self.now) c.args.frame c.args.site (see_opt_conds o) (see_body c.args.body.now)) c.in-Some.is c.requires.stands) c.in_ok-conditions.conditions.line c.in_ok-conditions.conditions.verdict c.in_ok-conditions.ensures (see_engine c.typed-2.new.self) c.in_ok-cited-2.cited.lines.items c.in_ok-cited-2.cited.verdict c.in_ok-cited-2.ensures (see_engine c.add_verdict-2.new.self) c.append.new.self.items said.line said.verdict (c.in_ok-append.ensures.items ∙ ap (λ (ns : List ℕ). ns ++ c.in_ok-cited-2.cited.lines.items) (c.in_ok-push.ensures.items ∙ ap (λ (ns : List ℕ). ns ++ c.in_ok-conditions.conditions.line ∷ []) c.new-lines.ensures.items)) added) c.add_verdict-2.ensures
+    IfOk-weaker c.add_verdict-2.result _ _ (λ said added. met-type-answer (see_engine c.args.self.now) (see_engine c.conditions.new.self) c.requires.whole c.args.self.now.store.file.now.sites c.args.frame c.args.site (see_conds c.in-Some.cond) (see_body c.args.body.now) (subst (λ (o : Option Conds). IsKinds (see_engine c.args.self.now) c.args.frame c.args.site (see_opt_conds o) (see_body c.args.body.now)) c.in-Some.is c.requires.stands) c.in_ok-conditions.conditions.line c.in_ok-conditions.conditions.verdict c.in_ok-conditions.ensures (see_engine c.typed-2.new.self) c.in_ok-typed.typed.lines.items c.in_ok-typed.typed.verdict c.in_ok-typed.ensures (see_engine c.add_verdict-2.new.self) c.in_ok-cites.cites.items said.line said.verdict c.in_ok-cites.ensures added) c.add_verdict-2.ensures
 
 pub typed-types-requires-clause-stands : goal.typed-types-requires-clause-stands
 typed-types-requires-clause-stands t c =
@@ -1622,7 +1544,7 @@ typed-bodies-requires t c =
 
 pub typed-returns : goal.typed-returns
 typed-returns t c =
-    typed-answer (see_engine c.args.self.now) (see_engine c.types.new.self) c.requires.whole c.args.self.now.store.file.now.sites c.args.frame c.args.site c.requires.stands.0 (see_body c.args.body.now) c.requires.stands.1 c.in_ok-line.line c.in_ok-line.ensures.said c.in_ok-line.ensures.parts c.deref.result.now (c.deref.ensures.value ∙ (c.in_ok-rows.ensures ∙ types-told (see_engine c.args.self.now) (see_engine c.types.new.self) c.requires.whole c.args.self.now.store.file.now.sites c.args.frame c.args.site c.requires.stands.0 (see_body c.args.body.now) c.requires.stands.1 c.in_ok-line.line c.in_ok-line.ensures.said c.in_ok-line.ensures.parts c.rows_said.result c.rows_said.ensures)) (see_engine c.bodies.new.self) c.in_ok-cited.cited.lines.items c.in_ok-cited.cited.verdict c.in_ok-cited.ensures c.append.new.self.items (c.in_ok-append.ensures.items ∙ ap (λ (ns : List ℕ). ns ++ c.in_ok-cited.cited.lines.items) (c.in_ok-push.ensures.items ∙ ap (λ (ns : List ℕ). ns ++ c.in_ok-line.line ∷ []) c.new-lines.ensures.items))
+    typed-answer (see_engine c.args.self.now) (see_engine c.types.new.self) c.requires.whole c.args.self.now.store.file.now.sites c.args.frame c.args.site c.requires.stands.0 (see_body c.args.body.now) c.requires.stands.1 c.in_ok-line.line c.in_ok-line.ensures.said c.in_ok-line.ensures.parts c.deref.result.now (c.deref.ensures.value ∙ (c.in_ok-rows.ensures ∙ types-told (see_engine c.args.self.now) (see_engine c.types.new.self) c.requires.whole c.args.self.now.store.file.now.sites c.args.frame c.args.site c.requires.stands.0 (see_body c.args.body.now) c.requires.stands.1 c.in_ok-line.line c.in_ok-line.ensures.said c.in_ok-line.ensures.parts c.rows_said.result c.rows_said.ensures)) (see_engine c.bodies.new.self) c.in_ok-cited.cited.lines.items c.in_ok-cited.cited.verdict c.in_ok-cited.ensures c.in_ok-lines.lines.items c.in_ok-lines.ensures
 
 pub bodies-loop-row-init : goal.bodies-loop-row-init
 bodies-loop-row-init t c =

@@ -27,10 +27,7 @@ abbrev pub decreases-found_query : goal.decreases-found_query
 decreases-found_query l = rank_in (see_engine l.self.now) l.frame l.site 0
 
 abbrev pub decreases-function : goal.decreases-function
-decreases-function l = rank_in (see_engine l.self.now) l.frame l.site 1
-
-abbrev pub decreases-arguments : goal.decreases-arguments
-decreases-arguments l = rank_in (see_engine l.self.now) l.frame l.site 0
+decreases-function l = rank_in (see_engine l.self.now) l.frame l.site 0
 
 abbrev pub decreases-query : goal.decreases-query
 decreases-query l = rank_in (see_engine l.self.now) l.frame (query_site (see_query l.query.now)) 4
@@ -113,12 +110,12 @@ decreases-body_at l = rank_in (see_engine l.self.now) l.frame (body_site (see_bo
 
 -- Loops.
 
-abbrev pub invariant-arguments-loop-arg : goal.invariant-arguments-loop-arg
-invariant-arguments-loop-arg l =
+abbrev pub invariant-function-loop-arg : goal.invariant-function-loop-arg
+invariant-function-loop-arg l =
     let a = see_engine l.initial.self in
     let b = see_engine l.self in
-    SaidFor a b (height_at a.known.file a.frames l.frame l.site) l.frame l.lines.items
-    (λ at. (given : List (List Row)) × GiveArgs b.known.file b.lines at (expr_list (map see_expr (take l.arg-index l.args))) l.lines.items given)
+    SaidFor a b (height_at a.known.file a.frames l.frame l.site) l.frame l.cites.items
+    (λ at. (given : List (List Row)) × GiveArgs b.known.file b.lines at (expr_list (map see_expr (take l.arg-index l.args))) l.cites.items given)
 
 abbrev pub invariant-steps-loop-index : goal.invariant-steps-loop-index
 invariant-steps-loop-index l =
@@ -135,8 +132,8 @@ abbrev pub invariant-judge_candidates-loop-candidate : goal.invariant-judge_cand
 invariant-judge_candidates-loop-candidate l =
     let a = see_engine l.initial.self in
     let b = see_engine l.self in
-    SaidFor a b (height_at a.known.file a.frames l.frame l.site) l.frame l.lines.items
-    (λ at. SayEach b.known b.lines (SaysCandidate b.known b.lines at l.site (see_conds l.conds)) (take l.candidate-index l.tried) l.lines.items l.verdicts.items)
+    SaidFor a b (height_at a.known.file a.frames l.frame l.site) l.frame l.judged.lines.items
+    (λ at. SayEach b.known b.lines (SaysCandidate b.known b.lines at l.site (see_conds l.conds)) (take l.candidate-index l.tried) l.judged.lines.items l.judged.verdicts.items)
 
 abbrev pub invariant-disjunctions-loop-disj : goal.invariant-disjunctions-loop-disj
 invariant-disjunctions-loop-disj l =

@@ -1,4 +1,4 @@
-use Rattle.std.proofs.Common.{◌≡◌, ◌∷◌, ◌++◌, [], ap, ◌∙◌, None}
+use Rattle.std.proofs.Common.{◌≡◌, ◌∷◌, ◌++◌, [], ap, ◌∙◌, None, subst, sym}
 use Rattle.std.proofs.lemmas.Option.{slice_get_within}
 use Rattle.indexmap.proofs.CallerLemmas.{insert_entry-new}
 use Rattle.clause_eval.specs.code.Adding.{line_for}
@@ -7,6 +7,9 @@ use Rattle.clause_eval.specs.code.Engines.{lines_in, part_in, see_engine}
 use Rattle.clause_eval.specs.contracts.place.PlacePartialEq.TheImpl.{eq-value}
 use Rattle.clause_eval.proofs.AddedLines.{is-beside-added}
 use Rattle.clause_eval.proofs.BesideTables.{beside-none, inserted}
+use Rattle.evidence_lines.specs.declared.line.Line.{Line}
+use Rattle.evidence_lines.specs.declared.version.Version.TheVariants.{Two}
+use Rattle.evidence_rules.specs.Follows.{Follows}
 use Rattle.clause_eval.proofs.engine.Engine.add_beside.Goals as goal
 
 pub line_in-line-requires : goal.line_in-line-requires
@@ -24,3 +27,22 @@ returns c =
     c.add_line.ensures.framed c.in_ok-number.ensures.added.1
     given.0 (λ n m other. given.1 n m other ∙ ap (λ b. beside_in b.entries n m) c.add_line.ensures.beside)
     (λ n m. ap (λ t. part_in t n m) c.add_line.ensures.parts) (λ m. ap (λ t. lines_in t m) c.add_line.ensures.rules)
+
+pub add_line-requires-clause-before : goal.add_line-requires-clause-before
+add_line-requires-clause-before c = c.requires.whole.follow
+
+pub add_line-requires-clause-follows : goal.add_line-requires-clause-follows
+add_line-requires-clause-follows c =
+    let s = see_engine c.args.self.now in
+    let line = c.line_in-line.ensures c.requires.adds.at c.requires.adds.framed ∙ ap (λ cs. line_for c.requires.adds.at c.args.place.site c.args.kind cs c.args.outcome) c.deref.ensures.value in
+    subst (λ (l : Line). Follows Two s.known s.lines l []) (sym line) c.requires.adds.follows
+
+pub invariant_of-self : goal.invariant_of-self
+invariant_of-self c = record {
+  frames_over = c.add_line.new.self.frames_over;
+  store_over = c.add_line.new.self.store_over;
+  book_is = c.add_line.new.self.book_is;
+  tables = c.add_line.new.self.tables;
+  version = c.add_line.new.self.version;
+  follows = c.add_line.new.self.follows;
+}

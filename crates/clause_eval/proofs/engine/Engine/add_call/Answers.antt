@@ -1,4 +1,4 @@
-use Rattle.std.proofs.Common.{◌≡◌, ◌∙◌, ◌+◌, ◌≤◌, ◌++◌, arith, refl, sym, ap, subst, ℕ, suc, List, [], ◌∷◌, length, length-append, map, None}
+use Rattle.std.proofs.Common.{◌≡◌, ◌∙◌, ◌+◌, ◌≤◌, ◌++◌, refl, sym, ap, subst, ℕ, suc, List, [], ◌∷◌, length, map, None}
 use Rattle.std.proofs.lemmas.Grind.{merely}
 use Rattle.std.proofs.lemmas.Option.{slice_get_within}
 use Rattle.evidence_lines.specs.declared.line.Line.{Line}
@@ -14,6 +14,7 @@ use Rattle.clause_eval.specs.code.Answers.{AreGiven, IsAnswerOf}
 use Rattle.clause_eval.specs.code.Engines.{see_engine}
 use Rattle.clause_eval.proofs.CallsAdded.{is-call-added, pushed-call, still-more}
 use Rattle.clause_eval.proofs.MadeTrees.{none-kept}
+use Rattle.clause_eval.proofs.LinesNumbered.{next-number, pushed-number, some-number, within-spans}
 use Rattle.clause_eval.proofs.engine.Engine.add_call.Goals as goal
 
 pub answer-requires-clause-given : goal.answer-requires-clause-given
@@ -23,7 +24,7 @@ answer-requires-clause-given c =
 pub keep-requires-clause-free : goal.keep-requires-clause-free
 keep-requires-clause-free c row =
     let s = see_engine c.args.self.now in
-    let at : suc (length s.lines) ≡ c.len-number.result + 1 = omega (arith, c.len-number.ensures.count) in
+    let at : suc (length s.lines) ≡ c.len-number.result + 1 = sym (next-number c.len-number.result (length s.lines) c.len-number.ensures.count) in
     subst (λ (n : ℕ). made_at s.known.made n row ≡ None) at (none-kept s c.requires.whole row)
 
 pub invariant_of-self : goal.invariant_of-self
@@ -42,7 +43,7 @@ line_in-line-requires c = slice_get_within c.args.self.now.framed.items c.args.f
 pub set-requires-clause-frame : goal.set-requires-clause-frame
 set-requires-clause-frame c =
     let named = slice_get_within c.args.self.now.framed.items c.args.frame c.in_ok-answer.ensures.answer.at c.in_ok-answer.ensures.answer.framed in
-    omega (arith, named, c.args.self.now.tables)
+    within-spans c.args.frame (length c.args.self.now.framed.items) (length c.args.self.now.parts.spans.items) named c.args.self.now.tables
 
 pub invariant_of-self-2-clause-store_over : goal.invariant_of-self-2-clause-store_over
 invariant_of-self-2-clause-store_over c = c.keep.ensures.file ∙ c.args.self.now.store_over
@@ -59,7 +60,7 @@ invariant_of-self-2-clause-follows c =
     let answer = map see_made c.in_ok-answer.answer.items in
     let is : IsAnswerOf s c.args.frame c.args.site c.args.cites.items answer =
     subst (λ (cs : List ℕ). IsAnswerOf s c.args.frame c.args.site cs answer) c.deref.ensures.value c.in_ok-answer.ensures.answer in
-    let at : c.len-number.result + 1 ≡ suc (length s.lines) = omega (arith, c.len-number.ensures.count) in
+    let at : c.len-number.result + 1 ≡ suc (length s.lines) = next-number c.len-number.result (length s.lines) c.len-number.ensures.count in
     let rows : c.new.result ≡ rows_kept (suc (length s.lines)) 0 answer = c.new.ensures ∙ c.deref-3.ensures.value ∙ c.in_ok-rows.ensures.rows ∙ ap (λ (n : ℕ). rows_kept n 0 answer) at in
     merely (pushed-call s c.requires.whole c.args.frame c.args.site c.args.cites.items answer is c.push.result (see_store c.keep.new.store) c.args.self.now.evidence c.push.new.self c.line_in-line.result
     refl (c.line_in-line.ensures is.at is.framed ∙ ap (λ (cs : List ℕ). line_for is.at c.args.site kind.Fn cs (says.Rows c.new.result)) c.deref-2.ensures.value ∙ ap (λ (rs : List Row). line_for is.at c.args.site kind.Fn c.args.cites.items (says.Rows rs)) rows)
@@ -71,10 +72,10 @@ returns c =
     let answer = map see_made c.in_ok-answer.answer.items in
     let is : IsAnswerOf s c.args.frame c.args.site c.args.cites.items answer =
     subst (λ (cs : List ℕ). IsAnswerOf s c.args.frame c.args.site cs answer) c.deref.ensures.value c.in_ok-answer.ensures.answer in
-    let at : c.len-number.result + 1 ≡ suc (length s.lines) = omega (arith, c.len-number.ensures.count) in
+    let at : c.len-number.result + 1 ≡ suc (length s.lines) = next-number c.len-number.result (length s.lines) c.len-number.ensures.count in
     let rows : c.new.result ≡ rows_kept (suc (length s.lines)) 0 answer = c.new.ensures ∙ c.deref-3.ensures.value ∙ c.in_ok-rows.ensures.rows ∙ ap (λ (n : ℕ). rows_kept n 0 answer) at in
     let number : c.in_ok-number.number ≡ suc (length s.lines) =
-    omega (arith, c.in_ok-number.ensures.added.1, ap length c.in_ok-number.ensures.added.0, length-append s.lines (c.line_in-line.result ∷ [])) in (
+    pushed-number s.lines c.push.new.self.lines c.line_in-line.result c.in_ok-number.number c.in_ok-number.ensures.added.0 c.in_ok-number.ensures.added.1 in (
       c.new.result,
       is-call-added s c.requires.whole c.args.frame c.args.site c.args.cites.items answer is _ c.in_ok-number.number c.new.result rows c.requires.new
           (c.in_ok-rows.ensures.trees ∙ ap (λ (n : ℕ). grown s.known (trees_kept n 0 answer)) at) refl
@@ -82,3 +83,14 @@ returns c =
           c.in_ok-set.ensures.line c.in_ok-set.ensures.others
           (λ n m. refl) (λ m. refl),
     )
+
+pub set-requires-clause-line : goal.set-requires-clause-line
+set-requires-clause-line c =
+    some-number c.in_ok-number.number (length c.args.self.now.evidence.lines)
+    (pushed-number c.args.self.now.evidence.lines c.push.new.self.lines c.line_in-line.result c.in_ok-number.number c.in_ok-number.ensures.added.0 c.in_ok-number.ensures.added.1)
+
+pub invariant_of-self-2-clause-frames_over : goal.invariant_of-self-2-clause-frames_over
+invariant_of-self-2-clause-frames_over c = c.args.self.now.frames_over
+
+pub invariant_of-self-2-clause-book_is : goal.invariant_of-self-2-clause-book_is
+invariant_of-self-2-clause-book_is c = c.args.self.now.book_is

@@ -88,3 +88,9 @@ returns c =
       c.new.result,
       subst (λ (cs : List ℕ). Added (see_engine c.args.self.now) (see_engine c.add.new.self) c.args.step.frame c.args.step.site kind.Filter cs (says.Rows c.new.result) number) cites added,
     )) c.add.ensures
+
+pub add-requires-clause-whole : goal.add-requires-clause-whole
+add-requires-clause-whole c = c.requires.whole
+
+pub add-requires-clause-new : goal.add-requires-clause-new
+add-requires-clause-new c = c.requires.new

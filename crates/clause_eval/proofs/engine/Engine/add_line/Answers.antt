@@ -1,7 +1,9 @@
 use Rattle.std.proofs.Common.{◌∙◌}
 use Rattle.std.proofs.lemmas.Grind.{merely}
+use Rattle.std.proofs.lemmas.Result.{IfOk-weaker}
 use Rattle.value_compare.specs.code.Stores.{see_store}
 use Rattle.clause_eval.proofs.EmptyEngine.{pushed-follows}
+use Rattle.clause_eval.proofs.LinesNumbered.{pushed-number}
 use Rattle.clause_eval.proofs.engine.Engine.add_line.Goals as goal
 
 pub invariant_of-self : goal.invariant_of-self
@@ -14,3 +16,7 @@ invariant_of-self c = record {
   follows = merely (pushed-follows c.push.result (see_store c.args.self.now.store) c.args.self.now.evidence c.push.new.self c.args.line c.requires.before c.requires.follows
       c.push.ensures.added c.push.ensures.kept);
 }
+
+pub returns-clause-added : goal.returns-clause-added
+returns-clause-added c =
+    IfOk-weaker c.push.result _ _ (λ number added. (added.0, pushed-number c.args.self.now.evidence.lines c.push.new.self.lines c.args.line number added.0 added.1)) c.push.ensures.added

@@ -72,3 +72,6 @@ returns c =
     (subst (λ (cs : List ℕ). Added a b c.args.frame site kind.Test cs (says.Verdict c.in_ok-verdict.verdict) said.line) c.in_ok-lines.ensures
     (subst (λ (n : ℕ). Added a b c.args.frame n kind.Test c.in_ok-lines.lines.items (says.Verdict c.in_ok-verdict.verdict) said.line) c.site_of.ensures it.0)))
     c.add_verdict.ensures
+
+pub add_verdict-requires-clause-whole : goal.add_verdict-requires-clause-whole
+add_verdict-requires-clause-whole c = c.requires.whole

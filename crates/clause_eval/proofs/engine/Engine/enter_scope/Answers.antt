@@ -1,10 +1,11 @@
-use Rattle.std.proofs.Common.{◌<◌, ◌≤◌, ◌∷◌, ◌++◌, [], ap, refl, sym, subst, ◌∙◌, ℕ, length, arith, slice_get}
+use Rattle.std.proofs.Common.{◌<◌, ◌≤◌, ◌∷◌, ◌++◌, [], ap, refl, sym, subst, ◌∙◌, ℕ, length, slice_get}
 use Rattle.rule_names.specs.code.Files.{file_of}
 use Rattle.scope_frames.specs.code.Frames.{AreEntered}
 use Rattle.scope_frames.specs.declared.frame.Frame.{Frame}
 use Rattle.clause_eval.specs.code.Beside.{beside_in}
 use Rattle.clause_eval.specs.code.Engines.{lines_in, part_in, see_engine}
 use Rattle.clause_eval.proofs.EnteredLines.{enter-follows, enter-frame, enter-has, enter-known, found-entered, is-first-entered, is-new, may-framed, new-alone, new-number, same-frames, was-there}
+use Rattle.clause_eval.proofs.LinesNumbered.{not-within, still-room}
 use Rattle.clause_eval.proofs.engine.Engine.enter_scope.Goals as goal
 
 pub returns-then-number-len : goal.returns-then-number-len
@@ -29,7 +30,7 @@ returns c =
     let frame : Frame = record { parent = c.args.parent; site = c.args.site; current = c.args.current } in
     let over = c.args.self.now.frames_over ∙ sym c.args.self.now.store_over in
     let beyond : length s.framed ≤ c.in_ok-number.number = subst (λ (n : ℕ). n ≤ c.in_ok-number.number) (c.len.ensures ∙ c.args.self.now.framed.ok.0) c.if-number-len.false in
-    let past : c.in_ok-number.number < length s.framed → ⊥ = λ less. omega (arith, less, beyond) in
+    let past : c.in_ok-number.number < length s.framed → ⊥ = not-within c.in_ok-number.number (length s.framed) beyond in
     let more = is-new s.frames c.enter.new.self.entered.keys frame c.in_ok-number.number (length s.framed) c.requires.whole.counted c.in_ok-number.ensures.entered past in
     is-first-entered s _ c.requires.whole frame c.frame_line-line.result c.in_ok-number.number
     (enter-follows s c.requires.whole c.args.site c.args.current c.frame_line-line.result c.args.parent c.requires.scope c.requires.value c.frame_line-line.ensures)
@@ -44,3 +45,23 @@ returns c =
     (c.in_ok-push.ensures.items ∙ ap (λ ns. ns ++ c.in_ok-line.line ∷ []) c.add_line.ensures.framed ∙ ap (λ n. s.framed ++ n ∷ []) c.in_ok-line.ensures.added.1)
     (λ n m. ap (λ t. part_in t n m) c.add_line.ensures.parts ∙ c.add_frame.ensures.lines n m)
     (λ n m. ap (λ b. beside_in b.entries n m) c.add_line.ensures.beside) (λ m. ap (λ t. lines_in t m) c.add_line.ensures.rules)
+
+pub invariant_of-self : goal.invariant_of-self
+invariant_of-self c = record {
+  frames_over = c.enter.ensures.file ∙ c.args.self.now.frames_over;
+  store_over = c.args.self.now.store_over;
+  book_is = c.args.self.now.book_is;
+  tables = c.args.self.now.tables;
+  version = c.args.self.now.version;
+  follows = c.args.self.now.follows;
+}
+
+pub invariant_of-self-2 : goal.invariant_of-self-2
+invariant_of-self-2 c = record {
+  frames_over = c.enter.ensures.file ∙ c.args.self.now.frames_over;
+  store_over = c.args.self.now.store_over;
+  book_is = c.args.self.now.book_is;
+  tables = still-room (length c.args.self.now.framed.items) (length c.args.self.now.parts.spans.items) (length c.add_frame.new.self.spans.items) c.args.self.now.tables c.add_frame.ensures.frames;
+  version = c.args.self.now.version;
+  follows = c.args.self.now.follows;
+}

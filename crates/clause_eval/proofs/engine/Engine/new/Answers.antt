@@ -3,7 +3,7 @@ use Rattle.std.proofs.lemmas.Grind.{merely}
 use Rattle.value_compare.specs.code.Stores.{see_store}
 use Rattle.clause_eval.specs.code.Beside.{beside_in}
 use Rattle.clause_eval.proofs.EmptyEngine.{nothing-follows, nothing-rests, nothing-whole}
-use Rattle.clause_eval.proofs.FramePlaces.{no-frames}
+use Rattle.engine_parts.proofs.FramePlaces.{no-frames}
 use Rattle.clause_eval.proofs.engine.Engine.new.Goals as goal
 
 pub invariant_of-result-clause-follows : goal.invariant_of-result-clause-follows

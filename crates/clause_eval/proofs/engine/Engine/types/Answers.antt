@@ -51,3 +51,6 @@ pub returns-clause-parts : goal.returns-clause-parts
 returns-clause-parts c =
     types-parts (see_engine c.args.self.now) c.requires.whole c.args.frame c.args.site c.requires.stands (see_engine c.add_beside.new.self) c.add_beside.result c.new.result.items c.new-2.result
     c.add_beside.ensures
+
+pub kinds-requires-clause-file : goal.kinds-requires-clause-file
+kinds-requires-clause-file c = ap file_of c.args.self.now.store_over

@@ -1,0 +1,3 @@
+pub mod Conjoined
+mod FirstSites
+pub mod FramePlaces
