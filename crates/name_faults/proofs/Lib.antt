@@ -1,4 +1,5 @@
 pub mod UsesInTurn
+mod FoundInTurn
 mod ScopeParts
 mod Arities
 mod NameSets

@@ -1,12 +1,10 @@
--- The scopes and the wrong uses in a part, where they are those of one thing in it.
+-- What is found in a part, where it is what is found in one thing in it.
 use Rattle.std.proofs.Common.{◌≡◌, ℕ, Bool, List, [], Option, Some, None, map, refl, sym, ap, ◌∙◌, rules}
-use Rattle.std.specs.declared.vec.Vec.{Vec}
-use Rattle.std.specs.declared.alloc.Global.{Global}
 use Rattle.doc_values.specs.Tree.{Forest}
 use Rattle.guard_syntax.specs.Syntax as sx
 use Rattle.guard_syntax.specs.declared.syntax.Body.{the_lemmas}
 use Rattle.guard_syntax.specs.declared.syntax.Conds.{Conds, out-Conds}
-use Rattle.guard_syntax.specs.declared.syntax.Query.{Query, out-Query}
+use Rattle.guard_syntax.specs.declared.syntax.Query.{Query}
 use Rattle.guard_syntax.specs.declared.syntax.Part.{Part}
 use Rattle.guard_syntax.specs.declared.syntax.Part as part
 use Rattle.guard_syntax.specs.declared.syntax.Step.{Step}
@@ -14,18 +12,15 @@ use Rattle.guard_syntax.specs.declared.syntax.StepForm.{StepForm}
 use Rattle.guard_syntax.specs.declared.syntax.Disj.{Disj}
 use Rattle.guard_syntax.specs.declared.syntax.Expr.{Expr}
 use Rattle.guard_syntax.specs.declared.syntax.Expr as expr
-use Rattle.guard_syntax.specs.code.Seen.{Form, see_step, see_form, see_disj, see_conds, see_opt_conds, see_part, see_query, see_expr, see_opt_expr, step_list, disj_list, expr_list}
+use Rattle.guard_syntax.specs.code.Seen.{Form, see_step, see_form, see_disj, see_conds, see_opt_conds, see_part, see_query, see_expr, see_opt_expr, disj_list}
 use Rattle.rule_names.specs.Scopes.{Given}
 use Rattle.rule_names.specs.Uses.{wrong_variable}
-use Rattle.rule_names.proofs.Shapes.{conds-seen, query-seen, step-seen, call-seen, function-seen}
+use Rattle.rule_names.proofs.Shapes.{conds-seen, step-seen}
 
 -- whatever is said of the syntax of these, by what it is seen as
 module _ {Y : Type 0} where
   pub of-conds : (say : sx.Conds → Y) (c : Conds) (ds : List Disj) → ds ≡ (out-Conds c).parts.items → say (sx.conds (out-Conds c).site (disj_list (map see_disj ds))) ≡ say (see_conds c)
   of-conds say c ds are = ap (λ (l : List Disj). say (sx.conds (out-Conds c).site (disj_list (map see_disj l)))) are ∙ ap say (sym (conds-seen c))
-
-  pub of-query : (say : sx.Query → Y) (q : Query) (ss : List Step) → ss ≡ (out-Query q).steps.items → say (sx.query (out-Query q).site (step_list (map see_step ss))) ≡ say (see_query q)
-  of-query say q ss are = ap (λ (l : List Step). say (sx.query (out-Query q).site (step_list (map see_step l)))) are ∙ ap say (sym (query-seen q))
 
   pub of-step : (say : sx.Step → Y) (s : Step) (fm : StepForm) (fn : Form) → s.form ≡ fm → see_form fm ≡ fn → say (fn s.site) ≡ say (see_step s)
   of-step say s fm fn is seen = ap say (sym (step-seen s ∙ ap (λ (f : Form). f s.site) (ap see_form is ∙ seen)))
@@ -35,16 +30,6 @@ module _ {Y : Type 0} where
     where
       seen : see_part (part.Refer site negated name message) ≡ sx.refer site negated name message
       seen = search (rules, the_lemmas)
-
-  pub of-call : (say : sx.Part → Y) (x : Part) (site : ℕ) (negated : Bool) (name : List ℕ) (args : Vec Expr Global) (message : Option (List ℕ)) (es : List Expr) → x ≡ part.Call site negated name args message → es ≡ args.items
-      → say (sx.call site negated name (expr_list (map see_expr es)) message) ≡ say (see_part x)
-  of-call say x site negated name args message es is are =
-      ap (λ (l : List Expr). say (sx.call site negated name (expr_list (map see_expr l)) message)) are ∙ ap say (sym (ap see_part is ∙ call-seen site negated name args message))
-
-  pub of-function : (say : sx.Expr → Y) (x : Expr) (site : ℕ) (name : List ℕ) (args : Vec Expr Global) (es : List Expr) → x ≡ expr.Function site name args → es ≡ args.items
-      → say (sx.function site name (expr_list (map see_expr es))) ≡ say (see_expr x)
-  of-function say x site name args es is are =
-      ap (λ (l : List Expr). say (sx.function site name (expr_list (map see_expr l)))) are ∙ ap say (sym (ap see_expr is ∙ function-seen site name args))
 
   pub of-literal : (say : sx.Expr → Y) (x e : Expr) (site : ℕ) (tree : Forest) → x ≡ e → see_expr e ≡ sx.literal site tree → say (sx.literal site tree) ≡ say (see_expr x)
   of-literal say x e site tree is seen = ap say (sym (ap see_expr is ∙ seen))

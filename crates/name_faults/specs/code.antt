@@ -1,5 +1,6 @@
 -- What serves the code and its proofs alone: nobody has to believe it.
 pub mod Arities
-pub mod Filters
+pub mod Found
+pub mod FoundParts
 pub mod NameSets
 pub mod RuleArities

@@ -1,16 +1,20 @@
-//! Names that are used. The walk goes over the syntax once, with the first of the faults until now, and with the scopes
-//! around a part, which lie on the stack.
-ghost use Rattle.std.specs.Prelude.{◌≡◌, [], IfOk, map};
+//! Names that are given, and names that are used. The walk goes over the syntax once, with the first of the faults until now,
+//! and with the scopes around a part, which lie on the stack.
+ghost use Rattle.std.specs.Prelude.{◌≡◌, [], ◌∷◌, IfOk, map};
 ghost use Rattle.guard_syntax.specs.code.Seen.{see_file, see_let, see_rule, see_body, see_conds, see_opt_conds, see_disj, see_part, see_query, see_step, see_expr, see_opt_expr, let_list, disj_list, part_list, expr_list};
-ghost use Rattle.rule_names.specs.Faults.{first_of, first_from};
-ghost use Rattle.name_faults.specs.code.Filters.{wrong_filter};
+ghost use Rattle.rule_names.specs.Duplicates.{duplicates};
+ghost use Rattle.rule_names.specs.Faults.{first_of};
 ghost use Rattle.rule_names.specs.Scopes.{given_file};
+ghost use Rattle.rule_names.specs.Uses.{wrong_uses};
+ghost use Rattle.name_faults.specs.code.Found.{see_found, found_scopes};
+ghost use Rattle.name_faults.specs.code.FoundParts.{in_rules, in_body, in_filter, in_lets, in_opt_conds, in_disjs, in_parts, in_part, in_query, in_step, in_expr, in_opt_expr, in_exprs, in_items};
 ghost use Rattle.name_scopes.specs.code.Seen.{see_best, see_given};
-ghost use Rattle.rule_names.specs.Uses.{wrong_uses, wrong_rules, wrong_body, wrong_lets, wrong_conds, wrong_opt_conds, wrong_disjs, wrong_parts, wrong_part, wrong_query, wrong_step, wrong_expr, wrong_opt_expr, wrong_exprs};
 ghost use Rattle.name_scopes.specs.code.ScopeChains.{visible_in};
 ghost use Rattle.name_faults.specs.code.RuleArities.{rules_of, places_of};
 
 use crate::calls::{wrong_call, wrong_function, wrong_reference, wrong_variable};
+use crate::duplicates::{duplicate_rule, enter};
+use crate::found::Found;
 use crate::rule_arities::Walk;
 use guard_syntax::{
     Body, Conds, Disj, Expr, Let, Name, Part, Query, RawFile, Rule, Step, StepForm,
@@ -28,12 +32,12 @@ fn in_body<'f>(
     body: &'f Body,
     params: &'f [Name],
     scope: &ScopeChain<'f, '_>,
-    best: Option<Wrong<'f>>,
-) -> Result<Option<Wrong<'f>>, AllocError>
-    ensures { IfOk result (λ found. see_best found ≡ first_from (see_best best.entry) (wrong_body (rules_of walk.now) (places_of walk.now) (visible_in scope.now) params.entry.now (see_body body.entry.now))) }
+    best: Found<'f>,
+) -> Result<Found<'f>, AllocError>
+    ensures { IfOk result (λ found. see_found found ≡ in_body (rules_of walk.now) (places_of walk.now) (visible_in scope.now) (see_found best.entry) params.entry.now (see_body body.entry.now)) }
 {
     let names = body_names(walk.alloc, params, body)?;
-    let own = Binders::new(walk.alloc, names)?;
+    let (own, best) = enter(walk.alloc, names, best)?;
     let inner = ScopeChain::inside(&own, &*scope);
     let best = in_lets(walk, &body.lets, &inner, best)?;
     in_disjs(walk, &body.parts, &inner, best)
@@ -45,9 +49,9 @@ fn in_lets<'f>(
     walk: &Walk<'f>,
     lets: &'f [Let],
     scope: &ScopeChain<'f, '_>,
-    mut best: Option<Wrong<'f>>,
-) -> Result<Option<Wrong<'f>>, AllocError>
-    ensures { IfOk result (λ found. see_best found ≡ first_from (see_best best.entry) (wrong_lets (rules_of walk.now) (places_of walk.now) (visible_in scope.now) (let_list (map see_let lets.entry.now)))) }
+    mut best: Found<'f>,
+) -> Result<Found<'f>, AllocError>
+    ensures { IfOk result (λ found. see_found found ≡ in_lets (rules_of walk.now) (places_of walk.now) (visible_in scope.now) (see_found best.entry) (let_list (map see_let lets.entry.now))) }
 {
     for given in lets {
         best = in_expr(walk, &given.value, scope, best)?;
@@ -61,9 +65,9 @@ fn in_opt_conds<'f>(
     walk: &Walk<'f>,
     conds: &'f Option<Conds>,
     scope: &ScopeChain<'f, '_>,
-    best: Option<Wrong<'f>>,
-) -> Result<Option<Wrong<'f>>, AllocError>
-    ensures { IfOk result (λ found. see_best found ≡ first_from (see_best best.entry) (wrong_opt_conds (rules_of walk.now) (places_of walk.now) (visible_in scope.now) (see_opt_conds conds.entry.now))) }
+    best: Found<'f>,
+) -> Result<Found<'f>, AllocError>
+    ensures { IfOk result (λ found. see_found found ≡ in_opt_conds (rules_of walk.now) (places_of walk.now) (visible_in scope.now) (see_found best.entry) (see_opt_conds conds.entry.now)) }
 {
     match conds {
         Some(conds) => in_disjs(walk, &conds.parts, scope, best),
@@ -77,12 +81,12 @@ fn in_filter<'f>(
     walk: &Walk<'f>,
     conds: &'f Conds,
     scope: &ScopeChain<'f, '_>,
-    best: Option<Wrong<'f>>,
-) -> Result<Option<Wrong<'f>>, AllocError>
-    ensures { IfOk result (λ found. see_best found ≡ first_from (see_best best.entry) (wrong_filter (rules_of walk.now) (places_of walk.now) (visible_in scope.now) (see_conds conds.entry.now))) }
+    best: Found<'f>,
+) -> Result<Found<'f>, AllocError>
+    ensures { IfOk result (λ found. see_found found ≡ in_filter (rules_of walk.now) (places_of walk.now) (visible_in scope.now) (see_found best.entry) (see_conds conds.entry.now)) }
 {
     let names = filter_names(walk.alloc, conds)?;
-    let own = Binders::new(walk.alloc, names)?;
+    let (own, best) = enter(walk.alloc, names, best)?;
     let inner = ScopeChain::inside(&own, &*scope);
     in_disjs(walk, &conds.parts, &inner, best)
 }
@@ -93,9 +97,9 @@ fn in_disjs<'f>(
     walk: &Walk<'f>,
     disjs: &'f [Disj],
     scope: &ScopeChain<'f, '_>,
-    mut best: Option<Wrong<'f>>,
-) -> Result<Option<Wrong<'f>>, AllocError>
-    ensures { IfOk result (λ found. see_best found ≡ first_from (see_best best.entry) (wrong_disjs (rules_of walk.now) (places_of walk.now) (visible_in scope.now) (disj_list (map see_disj disjs.entry.now)))) }
+    mut best: Found<'f>,
+) -> Result<Found<'f>, AllocError>
+    ensures { IfOk result (λ found. see_found found ≡ in_disjs (rules_of walk.now) (places_of walk.now) (visible_in scope.now) (see_found best.entry) (disj_list (map see_disj disjs.entry.now))) }
 {
     for disj in disjs {
         best = in_parts(walk, &disj.parts, scope, best)?;
@@ -109,9 +113,9 @@ fn in_parts<'f>(
     walk: &Walk<'f>,
     parts: &'f [Part],
     scope: &ScopeChain<'f, '_>,
-    mut best: Option<Wrong<'f>>,
-) -> Result<Option<Wrong<'f>>, AllocError>
-    ensures { IfOk result (λ found. see_best found ≡ first_from (see_best best.entry) (wrong_parts (rules_of walk.now) (places_of walk.now) (visible_in scope.now) (part_list (map see_part parts.entry.now)))) }
+    mut best: Found<'f>,
+) -> Result<Found<'f>, AllocError>
+    ensures { IfOk result (λ found. see_found found ≡ in_parts (rules_of walk.now) (places_of walk.now) (visible_in scope.now) (see_found best.entry) (part_list (map see_part parts.entry.now))) }
 {
     for part in parts {
         best = in_part(walk, part, scope, best)?;
@@ -125,9 +129,9 @@ fn in_part<'f>(
     walk: &Walk<'f>,
     part: &'f Part,
     scope: &ScopeChain<'f, '_>,
-    best: Option<Wrong<'f>>,
-) -> Result<Option<Wrong<'f>>, AllocError>
-    ensures { IfOk result (λ found. see_best found ≡ first_from (see_best best.entry) (wrong_part (rules_of walk.now) (places_of walk.now) (visible_in scope.now) (see_part part.entry.now))) }
+    best: Found<'f>,
+) -> Result<Found<'f>, AllocError>
+    ensures { IfOk result (λ found. see_found found ≡ in_part (rules_of walk.now) (places_of walk.now) (visible_in scope.now) (see_found best.entry) (see_part part.entry.now)) }
 {
     match part {
         Part::Block { head, body, .. } => {
@@ -146,14 +150,20 @@ fn in_part<'f>(
             let best = in_query(walk, left, scope, best)?;
             in_opt_expr(walk, right, scope, best)
         }
-        Part::Refer { site, name, .. } => Ok(wrong_reference(walk, name, *site, best)),
+        Part::Refer { site, name, .. } => Ok(Found {
+            again: best.again,
+            wrong: wrong_reference(walk, name, *site, best.wrong),
+        }),
         Part::Call {
             site,
             name,
             args,
             ..
         } => {
-            let called = wrong_call(walk, name, args, *site, best);
+            let called = Found {
+                again: best.again,
+                wrong: wrong_call(walk, name, args, *site, best.wrong),
+            };
             in_exprs(walk, args, scope, called)
         }
     }
@@ -165,9 +175,9 @@ fn in_query<'f>(
     walk: &Walk<'f>,
     query: &'f Query,
     scope: &ScopeChain<'f, '_>,
-    mut best: Option<Wrong<'f>>,
-) -> Result<Option<Wrong<'f>>, AllocError>
-    ensures { IfOk result (λ found. see_best found ≡ first_from (see_best best.entry) (wrong_query (rules_of walk.now) (places_of walk.now) (visible_in scope.now) (see_query query.entry.now))) }
+    mut best: Found<'f>,
+) -> Result<Found<'f>, AllocError>
+    ensures { IfOk result (λ found. see_found found ≡ in_query (rules_of walk.now) (places_of walk.now) (visible_in scope.now) (see_found best.entry) (see_query query.entry.now)) }
 {
     for step in &query.steps {
         best = in_step(walk, step, scope, best)?;
@@ -181,16 +191,22 @@ fn in_step<'f>(
     walk: &Walk<'f>,
     step: &'f Step,
     scope: &ScopeChain<'f, '_>,
-    best: Option<Wrong<'f>>,
-) -> Result<Option<Wrong<'f>>, AllocError>
-    ensures { IfOk result (λ found. see_best found ≡ first_from (see_best best.entry) (wrong_step (rules_of walk.now) (places_of walk.now) (visible_in scope.now) (see_step step.entry.now))) }
+    best: Found<'f>,
+) -> Result<Found<'f>, AllocError>
+    ensures { IfOk result (λ found. see_found found ≡ in_step (rules_of walk.now) (places_of walk.now) (visible_in scope.now) (see_found best.entry) (see_step step.entry.now)) }
 {
     match &step.form {
         StepForm::Var(name) => {
             let at = walk.place(step.site);
-            Ok(wrong_variable(scope, name.as_str(), at, best))
+            Ok(Found {
+                again: best.again,
+                wrong: wrong_variable(scope, name.as_str(), at, best.wrong),
+            })
         }
-        StepForm::Splice(name) => Ok(wrong_variable(scope, name.as_str(), name.at(), best)),
+        StepForm::Splice(name) => Ok(Found {
+            again: best.again,
+            wrong: wrong_variable(scope, name.as_str(), name.at(), best.wrong),
+        }),
         StepForm::Filter(_, conds) => in_filter(walk, conds, scope, best),
         StepForm::Keys { right, .. } => in_expr(walk, right, scope, best),
         StepForm::This => Ok(best),
@@ -207,15 +223,18 @@ fn in_expr<'f>(
     walk: &Walk<'f>,
     expr: &'f Expr,
     scope: &ScopeChain<'f, '_>,
-    best: Option<Wrong<'f>>,
-) -> Result<Option<Wrong<'f>>, AllocError>
-    ensures { IfOk result (λ found. see_best found ≡ first_from (see_best best.entry) (wrong_expr (rules_of walk.now) (places_of walk.now) (visible_in scope.now) (see_expr expr.entry.now))) }
+    best: Found<'f>,
+) -> Result<Found<'f>, AllocError>
+    ensures { IfOk result (λ found. see_found found ≡ in_expr (rules_of walk.now) (places_of walk.now) (visible_in scope.now) (see_found best.entry) (see_expr expr.entry.now)) }
 {
     match expr {
         Expr::Literal { .. } => Ok(best),
         Expr::Function { site, name, args } => {
-            let best = wrong_function(walk, name, args, *site, best);
-            in_exprs(walk, args, scope, best)
+            let called = Found {
+                again: best.again,
+                wrong: wrong_function(walk, name, args, *site, best.wrong),
+            };
+            in_exprs(walk, args, scope, called)
         }
         Expr::Query(query) => in_query(walk, query, scope, best),
         Expr::Found { query, .. } => in_query(walk, query, scope, best),
@@ -228,9 +247,9 @@ fn in_opt_expr<'f>(
     walk: &Walk<'f>,
     expr: &'f Option<Expr>,
     scope: &ScopeChain<'f, '_>,
-    best: Option<Wrong<'f>>,
-) -> Result<Option<Wrong<'f>>, AllocError>
-    ensures { IfOk result (λ found. see_best found ≡ first_from (see_best best.entry) (wrong_opt_expr (rules_of walk.now) (places_of walk.now) (visible_in scope.now) (see_opt_expr expr.entry.now))) }
+    best: Found<'f>,
+) -> Result<Found<'f>, AllocError>
+    ensures { IfOk result (λ found. see_found found ≡ in_opt_expr (rules_of walk.now) (places_of walk.now) (visible_in scope.now) (see_found best.entry) (see_opt_expr expr.entry.now)) }
 {
     match expr {
         Some(expr) => in_expr(walk, expr, scope, best),
@@ -244,9 +263,9 @@ fn in_exprs<'f>(
     walk: &Walk<'f>,
     exprs: &'f [Expr],
     scope: &ScopeChain<'f, '_>,
-    mut best: Option<Wrong<'f>>,
-) -> Result<Option<Wrong<'f>>, AllocError>
-    ensures { IfOk result (λ found. see_best found ≡ first_from (see_best best.entry) (wrong_exprs (rules_of walk.now) (places_of walk.now) (visible_in scope.now) (expr_list (map see_expr exprs.entry.now)))) }
+    mut best: Found<'f>,
+) -> Result<Found<'f>, AllocError>
+    ensures { IfOk result (λ found. see_found found ≡ in_exprs (rules_of walk.now) (places_of walk.now) (visible_in scope.now) (see_found best.entry) (expr_list (map see_expr exprs.entry.now))) }
 {
     for expr in exprs {
         best = in_expr(walk, expr, scope, best)?;
@@ -259,9 +278,9 @@ fn in_rules<'f>(
     walk: &Walk<'f>,
     rules: &'f [Rule],
     scope: &ScopeChain<'f, '_>,
-    mut best: Option<Wrong<'f>>,
-) -> Result<Option<Wrong<'f>>, AllocError>
-    ensures { IfOk result (λ found. see_best found ≡ first_from (see_best best.entry) (wrong_rules (rules_of walk.now) (places_of walk.now) (visible_in scope.now) (map see_rule rules.entry.now))) }
+    mut best: Found<'f>,
+) -> Result<Found<'f>, AllocError>
+    ensures { IfOk result (λ found. see_found found ≡ in_rules (rules_of walk.now) (places_of walk.now) (visible_in scope.now) (see_found best.entry) (map see_rule rules.entry.now)) }
 {
     for rule in rules {
         best = in_opt_conds(walk, &rule.cond, scope, best)?;
@@ -270,26 +289,41 @@ fn in_rules<'f>(
     Ok(best)
 }
 
-/// The first fault of a name that is used.
-pub fn first_wrong_use<'f>(
-    alloc: Global,
-    file: &'f RawFile,
-) -> Result<Option<Wrong<'f>>, AllocError>
-    ensures { IfOk result (λ found. see_best found ≡ first_of (wrong_uses (see_file file.entry.now))) }
-{
-    let walk = Walk::new(alloc, file)?;
-    let own = Binders::new(alloc, file_names(alloc, file)?)?;
-    in_file(&walk, &own)
-}
-
-/// The same, where the names of the file are known.
-fn in_file<'f>(walk: &Walk<'f>, own: &Binders<'f>) -> Result<Option<Wrong<'f>>, AllocError>
+/// The first of the faults until now and those in what stands in a file, whose names are known.
+fn in_items<'f>(
+    walk: &Walk<'f>,
+    own: &Binders<'f>,
+    best: Found<'f>,
+) -> Result<Found<'f>, AllocError>
     requires { see_given own.now.names.items ≡ given_file (see_file walk.now.file.now) }
-    ensures { IfOk result (λ found. see_best found ≡ first_of (wrong_uses (see_file walk.now.file.now))) }
+    ensures { IfOk result (λ found. see_found found ≡ in_items (see_file walk.now.file.now) (see_found best.entry)) }
 {
     let file = walk.file;
     let scope = ScopeChain::outermost(own);
-    let best = in_lets(walk, &file.lets, &scope, None)?;
+    let best = in_lets(walk, &file.lets, &scope, best)?;
     let best = in_rules(walk, &file.rules, &scope, best)?;
     in_disjs(walk, &file.loose, &scope, best)
+}
+
+/// The first fault of a name that a scope of a file has twice, behind one of its rules, and of a name that is used.
+fn in_scopes<'f>(
+    alloc: Global,
+    file: &'f RawFile,
+    again: Option<Wrong<'f>>,
+) -> Result<Found<'f>, AllocError>
+    ensures { IfOk result (λ found. see_found found ≡ found_scopes (see_file file.entry.now) (see_best again.entry)) }
+{
+    let names = file_names(alloc, file)?;
+    let (own, best) = enter(alloc, names, Found { again, wrong: None })?;
+    let walk = Walk::new(alloc, file)?;
+    in_items(&walk, &own, best)
+}
+
+/// The first name of a file that is given twice, and the first that is used wrongly.
+pub fn first_faults<'f>(alloc: Global, file: &'f RawFile) -> Result<Found<'f>, AllocError>
+    ensures again { IfOk result (λ found. see_best found.again ≡ first_of (duplicates (see_file file.entry.now))) }
+    ensures wrong { IfOk result (λ found. see_best found.wrong ≡ first_of (wrong_uses (see_file file.entry.now))) }
+{
+    let again = duplicate_rule(alloc, &file.rules)?;
+    in_scopes(alloc, file, again)
 }

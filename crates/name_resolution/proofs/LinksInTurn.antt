@@ -26,6 +26,7 @@ use Rattle.rule_names.specs.Resolution.{Linked, Scopes, link_rule, links_in, lin
 use Rattle.rule_names.specs.Uses.{rule_named}
 use Rattle.name_resolution.specs.code.FileLinks.{items_links}
 use Rattle.rule_names.proofs.Shapes.{let-seen, disj-seen, body-seen, conds-seen, query-seen, step-seen, block-seen, when-seen, kinds-seen, call-seen, function-seen}
+use Rattle.name_scopes.proofs.ScopeShapes.{side-seen}
 
 -- two lists behind a third
 pub in-turn : (start middle xs ys : List Linked) → middle ≡ start ++ xs → middle ++ ys ≡ start ++ (xs ++ ys)
@@ -156,15 +157,10 @@ module _ (f : sx.File) (scopes : Scopes) where
   kinds-links start middle x site name cond inner is added =
       in-turn start middle (links_opt_conds f scopes (see_opt_conds cond)) (links_body f scopes [] (see_body inner)) added ∙ part_as start x _ (ap see_part is ∙ kinds-seen site name cond inner)
 
-  test_seen : (site : ℕ) (any : Bool) (left : Query) (op : Op) (negated : Bool) (right : Option Expr) (message : Option (List ℕ))
-      → see_part (part.Test site any left op negated right message) ≡ sx.test site any (see_query left) op negated (see_opt_expr right) message
-  test_seen site any left op negated None message = search the_lemmas
-  test_seen site any left op negated (Some e) message = search the_lemmas
-
   pub test-links : (start middle : List Linked) (x : Part) (site : ℕ) (any : Bool) (left : Query) (op : Op) (negated : Bool) (right : Option Expr) (message : Option (List ℕ)) → x ≡ part.Test site any left op negated right message
       → middle ≡ start ++ links_query f scopes (see_query left) → middle ++ links_opt_expr f scopes (see_opt_expr right) ≡ start ++ links_part f scopes (see_part x)
   test-links start middle x site any left op negated right message is added =
-      in-turn start middle (links_query f scopes (see_query left)) (links_opt_expr f scopes (see_opt_expr right)) added ∙ part_as start x _ (ap see_part is ∙ test_seen site any left op negated right message)
+      in-turn start middle (links_query f scopes (see_query left)) (links_opt_expr f scopes (see_opt_expr right)) added ∙ part_as start x _ (ap see_part is ∙ side-seen site any left op negated right message)
 
   refer_seen : (site : ℕ) (negated : Bool) (name : List ℕ) (message : Option (List ℕ)) → see_part (part.Refer site negated name message) ≡ sx.refer site negated name message
   refer_seen site negated name message = search (rules, the_lemmas)

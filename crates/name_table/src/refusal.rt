@@ -12,7 +12,7 @@ use std::alloc::{AllocError, Global};
 /// Why the names of a rule file are refused: which name it is about, and the byte offset that is answered. That is where
 /// the name stands, but for a reference or call of a rule that part's first byte, which may be its `not`, and for
 /// `LiteralWanted` the argument's, and for `TooDeep` the item's first byte.
-#[derive(Debug, Drop)]
+#[derive(Drop)]
 pub enum NameRefusal {
     Bad { kind: NameKind, name: Text, at: u32 },
     NoMemory,

@@ -18,8 +18,7 @@ ghost use Rattle.name_table.specs.code.Tables.{AreTablesOf, IsTested};
 use crate::deep::{depths_of, first_deep};
 use crate::refusal::{NameRefusal, refuse};
 use guard_syntax::RawFile;
-use name_faults::duplicates::first_duplicate;
-use name_faults::uses::first_wrong_use;
+use name_faults::uses::first_faults;
 use name_resolution::homes::homes_of;
 use name_resolution::resolution::resolution_of;
 use reference_cycles::cycles::first_cycle;
@@ -135,10 +134,11 @@ fn tested_nodes(alloc: Global, file: &RawFile) -> Result<Vec<u32>, NameRefusal>
     requires sites { AreInOrder (see_file file.now) }
     ensures { MatchResult result (λ nodes. IsTested (see_file file.now) nodes.items) (λ refusal. IsNameRefusal (see_file file.now) refusal) }
 {
-    if let Some(wrong) = first_duplicate(alloc, file)? {
+    let faults = first_faults(alloc, file)?;
+    if let Some(wrong) = faults.again {
         return Err(refuse(alloc, wrong));
     }
-    if let Some(wrong) = first_wrong_use(alloc, file)? {
+    if let Some(wrong) = faults.wrong {
         return Err(refuse(alloc, wrong));
     }
     let graph = graph_of(alloc, file)?;

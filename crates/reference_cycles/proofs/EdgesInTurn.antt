@@ -25,6 +25,7 @@ use Rattle.rule_names.specs.Scopes.{Given, given_file}
 use Rattle.rule_names.specs.ReferenceGraph.{Edge, to_each, to_last, to_before, to_rule, from_capture, variable_node, rule_node, body_site, conds_site, disj_sites, part_sites, expr_sites, opt_conds_site, opt_expr_site, edges_of_file, edges_of_rules, edges_of_rule, edges_of_body, edges_of_lets, edges_of_let, edges_of_conds, edges_of_opt_conds, edges_of_disjs, edges_of_disj, edges_of_parts, edges_of_part, edges_of_query, edges_of_steps, edges_of_step, edges_of_expr, edges_of_opt_expr, edges_of_exprs}
 use Rattle.rule_names.specs.Uses.{rule_named, expr_site, query_site}
 use Rattle.rule_names.proofs.Shapes.{let-seen, disj-seen, body-seen, conds-seen, query-seen, step-seen, block-seen, when-seen, kinds-seen, call-seen, function-seen}
+use Rattle.name_scopes.proofs.ScopeShapes.{side-seen}
 use Rattle.reference_cycles.proofs.LastSteps.{site-seen}
 use Rattle.reference_cycles.specs.code.FileEdges.{items_edges}
 use Rattle.reference_cycles.specs.code.FilterEdges.{edges_of_filter}
@@ -56,11 +57,6 @@ end : {X : Type 0} (all : List X → List Edge) → all [] ≡ [] → (xs : List
 end all none xs i start old past so = nothing old ∙ ap (λ (l : List Edge). old ++ l) (sym none ∙ ap all (sym (drop_all i xs past))) ∙ so
 
 -- ---- parts without a lemma of their own
-
-test_seen : (site : ℕ) (any : Bool) (left : Query) (op : Op) (negated : Bool) (right : Option Expr) (message : Option (List ℕ))
-    → see_part (part.Test site any left op negated right message) ≡ sx.test site any (see_query left) op negated (see_opt_expr right) message
-test_seen site any left op negated None message = search the_lemmas
-test_seen site any left op negated (Some e) message = search the_lemmas
 
 refer_seen : (site : ℕ) (negated : Bool) (name : List ℕ) (message : Option (List ℕ)) → see_part (part.Refer site negated name message) ≡ sx.refer site negated name message
 refer_seen site negated name message = search (rules, the_lemmas)
@@ -101,7 +97,7 @@ module _ (rules : List sx.Rule) (count : ℕ) where
   test-own start middle x site any left op negated right message is added =
       in-turn start middle (to_each site ((out-Query left).site ∷ [])) (to_each site (opt_expr_site (see_opt_expr right))) added
       ∙ ap (λ (q : sx.Query). start ++ to_each site (query_site q ∷ opt_expr_site (see_opt_expr right))) (sym (query-seen left))
-      ∙ own_as start x _ (ap see_part is ∙ test_seen site any left op negated right message)
+      ∙ own_as start x _ (ap see_part is ∙ side-seen site any left op negated right message)
 
   pub refer-own : (start : List Edge) (x : Part) (site : ℕ) (negated : Bool) (name text : List ℕ) (message : Option (List ℕ)) → x ≡ part.Refer site negated name message → text ≡ name
       → start ++ to_rule rules count site (rule_named rules text) ≡ start ++ own_edges rules count (see_part x)
@@ -259,7 +255,7 @@ module _ (rules : List sx.Rule) (count : ℕ) (visible : List Given) where
       → second ++ edges_of_opt_expr rules count visible (see_opt_expr right) ≡ start ++ edges_of_part rules count visible (see_part x)
   test-edges start first second x site any left op negated right message is added more =
       in-turn first second (edges_of_query rules count visible (see_query left)) (edges_of_opt_expr rules count visible (see_opt_expr right)) more
-      ∙ part_as start first (edges_of_query rules count visible (see_query left) ++ edges_of_opt_expr rules count visible (see_opt_expr right)) x _ (ap see_part is ∙ test_seen site any left op negated right message) refl added
+      ∙ part_as start first (edges_of_query rules count visible (see_query left) ++ edges_of_opt_expr rules count visible (see_opt_expr right)) x _ (ap see_part is ∙ side-seen site any left op negated right message) refl added
 
   pub refer-edges : (start first : List Edge) (x : Part) (site : ℕ) (negated : Bool) (name : List ℕ) (message : Option (List ℕ)) → x ≡ part.Refer site negated name message
       → first ≡ start ++ own_edges rules count (see_part x) → first ≡ start ++ edges_of_part rules count visible (see_part x)

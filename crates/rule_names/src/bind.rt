@@ -2,7 +2,7 @@
 
 /// What the use of a variable means: what gives the name in the nearest scope around the use that has it. `up` counts
 /// the scopes outwards from the one in which the use stands, which is 0.
-#[derive(Clone, Copy, Debug, PartialEq, Eq)]
+#[derive(Clone, Copy, PartialEq, Eq)]
 pub enum Bind {
     /// A let: the site of its expression.
     Value { up: u32, site: u32 },
@@ -13,7 +13,7 @@ pub enum Bind {
 }
 
 /// What the use of a name means.
-#[derive(Clone, Copy, Debug, PartialEq, Eq)]
+#[derive(Clone, Copy)]
 pub enum Link {
     /// The use of a variable.
     Variable(Bind),

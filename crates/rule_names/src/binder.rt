@@ -1,7 +1,7 @@
 //! What gives a name to a scope.
 
 /// What gives a name to a scope.
-#[derive(Clone, Copy, Debug, PartialEq, Eq)]
+#[derive(Clone, Copy)]
 pub enum Binder {
     /// The let of a site.
     Let(u32),

@@ -1,7 +1,7 @@
 //! What may be the matter with a name.
 
 /// What is the matter with a name.
-#[derive(Clone, Copy, Debug, PartialEq, Eq)]
+#[derive(Clone, Copy)]
 pub enum NameKind {
     /// A rule has the name of an earlier one.
     DuplicateRule,

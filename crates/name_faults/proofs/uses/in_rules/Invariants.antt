@@ -1,11 +1,10 @@
 use Rattle.std.proofs.Common.{◌≡◌, drop}
-use Rattle.rule_names.specs.Faults.{first_from}
-use Rattle.name_scopes.specs.code.Seen.{see_best}
+use Rattle.name_faults.specs.code.Found.{see_found}
 use Rattle.name_scopes.specs.code.ScopeChains.{visible_in}
 use Rattle.name_faults.specs.code.RuleArities.{rules_of, places_of}
-use Rattle.name_faults.proofs.UsesInTurn.{of_rules}
+use Rattle.name_faults.proofs.FoundInTurn.{of_rules}
 use Rattle.name_faults.proofs.uses.in_rules.Given as goal
 
 abbrev pub invariant-loop-rule : goal.invariant-loop-rule
 invariant-loop-rule l =
-    first_from (see_best l.best) (of_rules (rules_of l.walk) (places_of l.walk) (visible_in l.scope) (drop l.rule-index l.rules)) ≡ first_from (see_best l.fn.best) (of_rules (rules_of l.walk) (places_of l.walk) (visible_in l.scope) l.rules)
+    of_rules (rules_of l.walk) (places_of l.walk) (visible_in l.scope) (see_found l.best) (drop l.rule-index l.rules) ≡ of_rules (rules_of l.walk) (places_of l.walk) (visible_in l.scope) (see_found l.fn.best) l.rules

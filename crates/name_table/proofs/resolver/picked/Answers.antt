@@ -1,6 +1,7 @@
-use Rattle.std.proofs.Common.{◌≡◌, ◌-◌, ◌<◌, ◌≤◌, ◌∙◌, sym, ap, arith, ℕ, true, false, get_or, take}
+use Rattle.std.proofs.Common.{◌≡◌, ◌-◌, ◌<◌, ◌≤◌, ◌∙◌, sym, ap, arith, subst, ℕ, List, true, false, get_or, take}
 use Rattle.std.proofs.lemmas.Bool.{true≢false}
-use Rattle.std.proofs.lemmas.List.{take_more}
+use Rattle.std.proofs.lemmas.List.{take_all, take_more}
+use Rattle.name_table.specs.code.Picked.{ArePicked}
 use Rattle.name_table.proofs.RuleOrders.{picked-more, picked-passed}
 use Rattle.name_table.proofs.resolver.picked.Goals as goal
 use Rattle.name_table.proofs.resolver.picked.Goals.{then-node-count+then-is_marked+in_ok-push, else-node-count, else-node-count-via-then-node-count+else-is_marked, else-node-count-via-else-node-count}
@@ -33,3 +34,6 @@ loop-node-preserved c =
                 picked-passed count marks (take i nodes) sites x c.loop-node.invariant (λ s e m. absurd (omega (arith, e, before)))
           ])
     ]
+
+pub returns : goal.returns
+returns c = subst (λ (ns : List ℕ). ArePicked c.args.count c.args.marks.now ns c.loop-node.sites.items) (take_all c.loop-node.node-index c.args.nodes.now c.loop-node-test.false) c.loop-node.invariant

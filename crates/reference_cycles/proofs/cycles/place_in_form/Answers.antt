@@ -1,5 +1,5 @@
 use Rattle.std.proofs.Common.{◌≡◌, ℕ, Some, refl, sym, ap, ◌∙◌, rules}
-use Rattle.guard_syntax.specs.code.Seen.{Form, see_form}
+use Rattle.guard_syntax.specs.code.Seen.{Form, see_conds, see_expr, see_form}
 use Rattle.guard_syntax.specs.Syntax as sx
 use Rattle.guard_syntax.specs.declared.syntax.StepForm.{StepForm}
 use Rattle.guard_syntax.specs.declared.syntax.StepForm as form
@@ -31,3 +31,9 @@ returns-in-Every c = λ n. by_form c.args.form.now form.Every (λ k. sx.every k)
 
 pub returns-in-Items : goal.returns-in-Items
 returns-in-Items c = λ n. by_form c.args.form.now form.Items (λ k. sx.items k) c.args.place c.args.place n c.in-Items.is (search (rules, the_lemmas)) refl
+
+pub returns-in-Filter : goal.returns-in-Filter
+returns-in-Filter c = λ n. by_form c.args.form.now (form.Filter c.in-Filter.field-0 c.in-Filter.field-1) (λ k. sx.filter k c.in-Filter.field-0 (see_conds c.in-Filter.field-1)) c.args.place c.args.place n c.in-Filter.is (search (rules, the_lemmas)) refl
+
+pub returns-in-Keys : goal.returns-in-Keys
+returns-in-Keys c = λ n. by_form c.args.form.now (form.Keys c.in-Keys.capture c.in-Keys.op c.in-Keys.not c.in-Keys.right) (λ k. sx.keys k c.in-Keys.capture c.in-Keys.op c.in-Keys.not (see_expr c.in-Keys.right)) c.args.place c.args.place n c.in-Keys.is (search (rules, the_lemmas)) refl
