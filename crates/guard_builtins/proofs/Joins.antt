@@ -53,3 +53,8 @@ pub joined-is : {X : Type 0} (f : X → List ℕ) (xs : List X) (between bytes :
     → Some (map f xs) ≡ o → Some between ≡ p → bytes ≡ join_by f between xs → tree ≡ text_tree bytes → Some tree ≡ joined o p
 joined-is f xs between bytes tree o p texts mark spelled made =
     ap Some (made ∙ ap text_tree (spelled ∙ join_by-map f between xs)) ∙ ap (λ q. joined q (Some between)) texts ∙ ap (joined o) mark
+
+-- no texts, where there is none to stand between them
+pub joined-nothing : (o : Option (List (List ℕ))) (p : Option (List ℕ)) → None ≡ p → None ≡ joined o p
+joined-nothing None p none = refl
+joined-nothing (Some texts) p none = ap (joined (Some texts)) none

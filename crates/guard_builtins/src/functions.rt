@@ -1,5 +1,5 @@
 //! The functions on lists of rows. Those that answer a row for each row of an argument take no memory where it has none.
-ghost use Rattle.std.specs.Prelude.{◌≡◌, [], false, true, IfOk, IfSome, IsOk, map};
+ghost use Rattle.std.specs.Prelude.{◌≡◌, [], false, true, count_by, IfOk, IfSome, IsOk, Some, map};
 ghost use Rattle.std.specs.List.{list_all};
 ghost use Rattle.rule_meaning.specs.Functions.{AreRows, IsRow, IsSubstring, counted, is_found, joined, joined_row, single_text, single_whole, texts_in};
 ghost use Rattle.value_compare.specs.code.Stores.{see_store};
@@ -20,11 +20,24 @@ pub fn count(alloc: Global, rows: &[Row]) -> Result<Vec<Made>, AllocError>
     ensures rows { IfOk result (λ made. map see_made made.items ≡ counted rows.now) }
     ensures plain { IfOk result (λ made. list_all is_plain made.items ≡ true) }
 {
-    let found = rows.iter().filter(|row| is_found(row)).count();
+    let found = found_count(rows);
     one_row(
         alloc,
         Made::Tree(plain_tree(alloc, Kind::Whole(found as i64))?),
     )
+}
+
+/// How many rows are found.
+fn found_count(rows: &[Row]) -> usize
+    ensures { result ≡ count_by is_found rows.now }
+{
+    let mut count = 0;
+    for row in rows {
+        if is_found(row) {
+            count += 1;
+        }
+    }
+    count
 }
 
 fn is_found(row: &Row) -> bool
@@ -49,6 +62,7 @@ pub fn join(
     one_row(alloc, new_or_missing(site, tree))
 }
 
+/// The tree of the texts of rows with that of `between` between each two.
 fn joined(
     alloc: Global,
     rows: &[Row],
@@ -58,10 +72,27 @@ fn joined(
     ensures tree { IfOk result (λ tree. tree ≡ joined (texts_in (see_store store.now) rows.now) (single_text (see_store store.now) between.now)) }
     ensures plain { IfOk result (λ tree. IfSome tree (λ t. has_pattern t ≡ false)) }
 {
-    match (texts_in(alloc, rows, store)?, single_text(between, store)) {
-        (Some(texts), Some(between)) => Ok(Some(text_tree(alloc, texts.join(alloc, between)?)?)),
-        _ => Ok(None),
+    match single_text(between, store) {
+        None => Ok(None),
+        Some(between) => joined_by(alloc, rows, between, store),
     }
+}
+
+/// The tree of the texts of rows with another text between each two.
+fn joined_by(
+    alloc: Global,
+    rows: &[Row],
+    between: &str,
+    store: &Store<'_, '_>,
+) -> Result<Option<Doc<'static>>, AllocError>
+    ensures tree { IfOk result (λ tree. tree ≡ joined (texts_in (see_store store.now) rows.now) (Some between.now)) }
+    ensures plain { IfOk result (λ tree. IfSome tree (λ t. has_pattern t ≡ false)) }
+{
+    let Some(texts) = texts_in(alloc, rows, store)? else {
+        return Ok(None);
+    };
+    let text = texts.join(alloc, between)?;
+    Ok(Some(text_tree(alloc, text)?))
 }
 
 /// A row of the answer for a row of the first argument: a missing one stays as it is.

@@ -1,5 +1,5 @@
 //! Texts with the matches of a pattern replaced.
-ghost use Rattle.std.specs.Prelude.{◌≡◌, [], true, IfOk, IfSome, IsOk, map, option_map};
+ghost use Rattle.std.specs.Prelude.{◌≡◌, [], true, IfOk, IfSome, IsOk, Some, map, option_map};
 ghost use Rattle.std.specs.List.{list_all};
 ghost use Rattle.value_compare.specs.code.Books.{has_text};
 ghost use Rattle.rule_meaning.specs.Functions.{AreRows, IsGiven, IsReplaced, single_text};
@@ -36,10 +36,41 @@ pub fn regex_replace(
     if rows.is_empty() {
         return Ok(Vec::new(alloc));
     }
-    let Some((pattern, template)) = texts(pattern, template, store) else {
-        return rows_for(alloc, &mut NoChange, site, rows, store);
-    };
-    let mut replacer = book.replacer(alloc, pattern, template)?;
+    match texts(pattern, template, store) {
+        None => rows_for(alloc, &mut NoChange, site, rows, store),
+        Some((pattern, template)) => {
+            let replacing = Replacing {
+                pattern,
+                template,
+                book,
+            };
+            replaced_rows(alloc, replacing, site, rows, store)
+        }
+    }
+}
+
+/// What replaces: a pattern of a book, and a template.
+#[derive(Clone, Copy)]
+struct Replacing<'r> {
+    pattern: &'r str,
+    template: &'r str,
+    book: &'r PatternBook,
+}
+
+/// A row for each row, with each match in its text replaced.
+fn replaced_rows(
+    alloc: Global,
+    replacing: Replacing<'_>,
+    site: u32,
+    rows: &[Row],
+    store: &Store<'_, '_>,
+) -> Result<Vec<Made>, AllocError>
+    requires { has_text replacing.book.now replacing.pattern.now ≡ true }
+    ensures rows { IfOk result (λ made. AreRows (IsReplaced (Some replacing.entry.pattern.now) (Some replacing.entry.template.now)) (see_store store.now) site rows.now (map see_made made.items)) }
+    ensures plain { IfOk result (λ made. list_all is_plain made.items ≡ true) }
+{
+    let book = replacing.book;
+    let mut replacer = book.replacer(alloc, replacing.pattern, replacing.template)?;
     rows_for(alloc, &mut replacer, site, rows, store)
 }
 

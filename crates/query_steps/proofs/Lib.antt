@@ -3,8 +3,10 @@ pub mod FilterWalks
 mod StepPlaces
 mod EmptyLists
 mod LoopRows
+mod NamedTexts
 pub mod KnownModel
 pub mod Keyed
+mod JudgedRows
 pub mod KnownRows
 pub mod SeenFilters
 pub mod SeenFunctions

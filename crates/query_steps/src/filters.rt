@@ -1,6 +1,6 @@
 //! Filters: which values they try, and which of these they keep.
-ghost use Rattle.std.specs.Prelude.{◌≡◌, ◌≤◌, ◌++◌, ◌∷◌, [], List, true, drop, length, map, if◌then◌else◌, IfOk, IsOk, OnOk};
-ghost use Rattle.std.specs.List.{filter, list_all, zip};
+ghost use Rattle.std.specs.Prelude.{◌≡◌, ◌≤◌, ◌++◌, ◌∷◌, [], List, true, drop, length, if◌then◌else◌, IfOk, IsOk, OnOk};
+ghost use Rattle.std.specs.List.{list_all};
 ghost use Rattle.guard_syntax.specs.declared.row.Ref.{Ref};
 ghost use Rattle.rule_meaning.specs.StoreModel.{is_known, is_known_ref};
 ghost use Rattle.value_compare.specs.code.Stores.{see_store};
@@ -126,24 +126,22 @@ fn push_kept<'v>(
 {
     if is_looked_into(kind_of(value, view.store), view.after_key) {
         let tried = inside_of(alloc, value, view.store)?;
-        let kept = kept_refs(alloc, &tried, verdicts)?;
-        rows.extend_from_slice(&kept)?;
+        push_judged(&tried, verdicts, rows)?;
         return Ok(&verdicts[tried.len()..]);
     }
     push_if(is_pass(verdicts[0]), value, rows)?;
     Ok(&verdicts[1..])
 }
 
-/// The values that are kept, by their verdicts, of which there may be more.
-fn kept_refs(alloc: Global, tried: &[Ref], verdicts: &[Verdict]) -> Result<Vec<Row>, AllocError>
-    ensures { IfOk result (λ rows. rows.items ≡ map (λ p. Row.Found p.0) (filter (λ p. is_pass p.1) (zip tried.now verdicts.now))) }
+/// Adds the values that are kept, by their verdicts, of which there may be more.
+fn push_judged(tried: &[Ref], verdicts: &[Verdict], rows: &mut Vec<Row>) -> Result<(), AllocError>
+    requires { length tried.now ≤ length verdicts.now }
+    ensures { OnOk result (rows.new.items ≡ rows.old.items ++ kept tried.now verdicts.now) }
 {
-    tried
-        .iter()
-        .zip(verdicts)
-        .filter(|(_, verdict)| is_pass(**verdict))
-        .map(|(value, _)| Row::Found(*value))
-        .collect(alloc)
+    for index in 0..tried.len() {
+        push_if(is_pass(verdicts[index]), tried[index], rows)?;
+    }
+    Ok(())
 }
 
 /// Whether a candidate with this verdict is kept.

@@ -10,6 +10,7 @@ ghost use Rattle.rule_meaning.specs.Values.{Value};
 ghost use Rattle.rule_meaning.specs.Keys.{captured_row, passes};
 
 use crate::reached::key_of;
+use crate::steps::push_one;
 use guard_syntax::{Op, Row};
 use std::alloc::{AllocError, Global};
 use value_compare::{Matchers, Store, row_test};
@@ -85,9 +86,6 @@ fn push_captured(row: &Row, store: &Store<'_, '_>, keys: &mut Vec<Row>) -> Resul
     let key = key_of(value);
     match store.view(key) {
         None => Ok(()),
-        Some(_) => {
-            keys.push(Row::Found(key))?;
-            Ok(())
-        }
+        Some(_) => push_one(Row::Found(key), keys),
     }
 }

@@ -1,12 +1,13 @@
 //! What is reached from a value: values in the same tree.
-ghost use Rattle.std.specs.Prelude.{◌≡◌, ◌+◌, [], true, false, map, IfOk, IfSome, IsOk, MatchOption};
+ghost use Rattle.std.specs.Prelude.{◌≡◌, ◌+◌, [], true, false, map, None, Some, IfOk, IfSome, IsOk, MatchOption};
 ghost use Rattle.std.specs.List.{list_all};
 ghost use Rattle.doc_values.specs.Places.{kids_at};
 ghost use Rattle.doc_values.specs.Tree.{Nil, holds_values, is_map};
-ghost use Rattle.rule_meaning.specs.StoreModel.{is_known_ref};
+ghost use Rattle.rule_meaning.specs.StoreModel.{is_known_ref, stands_for};
 ghost use Rattle.value_compare.specs.code.Stores.{see_store};
 ghost use Rattle.query_steps.specs.code.Nodes.{IsNodeOf};
 ghost use Rattle.rule_meaning.specs.Reached.{entry, inside, item, key_of, node_beside, numbers, value_for};
+ghost use Rattle.rule_meaning.specs.Steps.{key_in};
 
 use doc_values::{Cursor, Kind};
 use guard_syntax::Ref;
@@ -55,6 +56,21 @@ pub(crate) fn kind_of(value: Ref, store: &Store<'_, '_>) -> Kind
         Some(View::At(node)) => node.kind(),
         Some(View::Key(_)) => Kind::Text,
         None => Kind::Null,
+    }
+}
+
+/// The text that a value is; a key is one.
+pub(crate) fn text_at<'v, 's>(value: Ref, store: &'v Store<'_, 's>) -> Option<&'v str>
+    ensures { MatchOption result (key_in (stands_for (see_store store.entry.now) value) ≡ None)
+        (λ text. key_in (stands_for (see_store store.entry.now) value) ≡ Some text.now) }
+{
+    match store.view(value) {
+        None => None,
+        Some(View::Key(text)) => Some(text),
+        Some(View::At(node)) => match node.kind() {
+            Kind::Text => Some(node.text()),
+            _ => None,
+        },
     }
 }
 
@@ -114,11 +130,12 @@ pub(crate) fn entry_of(value: Ref, key: &str, store: &Store<'_, '_>) -> Option<R
 {
     let node = node_of(value, store)?;
     match node.kind() {
-        Kind::Map => {}
-        _ => return None,
+        Kind::Map => match node.get(key) {
+            None => None,
+            Some(found) => Some(beside(value, found.id)),
+        },
+        _ => None,
     }
-    let found = node.get(key)?;
-    Some(beside(value, found.id))
 }
 
 /// The item of a value at an index; a value that is no list has none.

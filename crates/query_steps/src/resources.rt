@@ -7,12 +7,12 @@ ghost use Rattle.rule_meaning.specs.Kinds.{has_type, is_name, rows_of_type};
 ghost use Rattle.rule_meaning.specs.Reached.{value_for};
 ghost use Rattle.query_steps.specs.code.Memory.{has_resources};
 
-use crate::reached::{entry_of, inside_of, kind_of};
+use crate::reached::{entry_of, inside_of, kind_of, text_at};
 use crate::steps::push_if;
 use doc_values::Kind;
 use guard_syntax::{Ref, Row};
 use std::alloc::{AllocError, Global};
-use value_compare::{Store, View};
+use value_compare::Store;
 
 /// The rows of a type block: the entries of the `Resources` map of the current value that are maps whose `Type` is the
 /// name. Where it has no such map, no memory is taken.
@@ -68,12 +68,8 @@ fn has_type(value: Ref, name: &str, store: &Store<'_, '_>) -> bool
 fn is_text(value: Ref, text: &str, store: &Store<'_, '_>) -> bool
     ensures { result ≡ is_name text.now (value_for (see_store store.now) value) }
 {
-    match store.view(value) {
+    match text_at(value, store) {
         None => false,
-        Some(View::Key(key)) => key == text,
-        Some(View::At(node)) => match node.kind() {
-            Kind::Text => node.text() == text,
-            _ => false,
-        },
+        Some(found) => found == text,
     }
 }

@@ -12,11 +12,11 @@ ghost use Rattle.rule_meaning.specs.Steps.{each_inside, every_by, found_or_missi
 
 use crate::context::StepContext;
 use crate::keys::{RowTest, row_passes};
-use crate::reached::{entries_of, entry_of, inside_of, item_of, key_of, kind_of};
+use crate::reached::{entries_of, entry_of, inside_of, item_of, key_of, kind_of, text_at};
 use doc_values::Kind;
 use guard_syntax::{Ref, Row, Step, StepForm};
 use std::alloc::{AllocError, Global};
-use value_compare::{Matchers, Store, View};
+use value_compare::{Matchers, Store};
 
 /// A step other than a filter, with what it reads beside the values before it.
 #[derive(Clone, Copy)]
@@ -73,11 +73,16 @@ fn push_row(
 {
     match row {
         Row::Found(value) => push_step(context, ready, *value, into),
-        Row::Missing { .. } | Row::Unmade { .. } => {
-            into.push(*row)?;
-            Ok(())
-        }
+        Row::Missing { .. } | Row::Unmade { .. } => push_one(*row, into),
     }
+}
+
+/// Adds a row.
+pub(crate) fn push_one(row: Row, into: &mut Vec<Row>) -> Result<(), AllocError>
+    ensures { OnOk result (into.new.items ≡ into.old.items ++ row ∷ []) }
+{
+    into.push(row)?;
+    Ok(())
 }
 
 /// Adds what a step gives for a value.
@@ -145,10 +150,9 @@ fn push_found(
     ensures { OnOk result (into.new.items ≡ into.old.items ++ found_or_missing site value found ∷ []) }
 {
     match found {
-        Some(found) => into.push(Row::Found(found))?,
-        None => into.push(Row::Missing { value, step: site })?,
+        Some(found) => push_one(Row::Found(found), into),
+        None => push_one(Row::Missing { value, step: site }, into),
     }
-    Ok(())
 }
 
 /// `.*` at a value.
@@ -196,11 +200,7 @@ fn push_inside(
     let value = at.value;
     let values = inside_of(alloc, value, store)?;
     if values.is_empty() && !at.last {
-        into.push(Row::Missing {
-            value,
-            step: at.site,
-        })?;
-        return Ok(());
+        return push_found(at.site, value, None, into);
     }
     into.reserve(values.len())?;
     push_each(&values, into)
@@ -236,16 +236,9 @@ fn text_of<'v, 's>(row: &Row, store: &'v Store<'_, 's>) -> Option<&'v str>
     ensures { MatchOption result (key_in (meant (see_store store.entry.now) row.now) ≡ None)
         (λ text. key_in (meant (see_store store.entry.now) row.now) ≡ Some text.now) }
 {
-    let value = match row {
-        Row::Found(value) => *value,
-        Row::Missing { .. } | Row::Unmade { .. } => return None,
-    };
-    match store.view(value)? {
-        View::Key(text) => Some(text),
-        View::At(node) => match node.kind() {
-            Kind::Text => Some(node.text()),
-            _ => None,
-        },
+    match row {
+        Row::Found(value) => text_at(*value, store),
+        Row::Missing { .. } | Row::Unmade { .. } => None,
     }
 }
 
@@ -300,7 +293,7 @@ pub(crate) fn push_if(passes: bool, value: Ref, into: &mut Vec<Row>) -> Result<(
     ensures { OnOk result (into.new.items ≡ into.old.items ++ (if passes then Found value ∷ [] else [])) }
 {
     if passes {
-        into.push(Row::Found(value))?;
+        return push_one(Row::Found(value), into);
     }
     Ok(())
 }

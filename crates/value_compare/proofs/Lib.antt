@@ -7,6 +7,7 @@ mod Forests
 mod MapKeys
 mod Equalities
 mod Walks
+mod Settling
 pub mod Nodes
 mod HeldPatterns
 mod RowExamples

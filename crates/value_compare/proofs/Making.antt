@@ -1,5 +1,5 @@
 -- A book that is made pattern by pattern: what it gained, and which pattern comes next.
-use Rattle.std.proofs.Common.{◌≡◌, ℕ, zero, suc, ◌+◌, ◌-◌, ◌<◌, ◌≤◌, Bool, true, false, List, [], ◌∷◌, ◌++◌, length, take, drop, get_or, Option, Some, None, Ok, refl, sym, ap, subst, ◌∙◌, inl, inr, arith, append_assoc, add-one}
+use Rattle.std.proofs.Common.{◌≡◌, ℕ, zero, suc, ◌+◌, ◌<◌, ◌≤◌, Bool, true, false, List, [], ◌∷◌, ◌++◌, length, map, take, drop, get_or, Option, Some, None, Ok, refl, sym, ap, subst, ◌∙◌, inl, inr, arith, add-one}
 use Rattle.std.specs.Prelude.{◌||◌, IsErrOf, IsSome, option_and_then}
 use Rattle.std.specs.List.{list_any, flat_map}
 use Rattle.std.specs.Option.{option_map_or}
@@ -9,7 +9,7 @@ use Rattle.std.proofs.lemmas.Slice.Eq.{bytes_eq-Decides}
 use Rattle.std.proofs.lemmas.List.Folds.{list_any-append}
 use Rattle.std.proofs.lemmas.List.Concat.{flat_map-append}
 use Rattle.std.proofs.Math.Seq.{take-suc, drop-cons}
-use Rattle.std.proofs.lemmas.List.{take-append-drop, take_all, append-nil}
+use Rattle.std.proofs.lemmas.List.{take-append-drop, take_all, append-nil, map-append, map_more}
 use Rattle.std.proofs.lemmas.List.Elements.{All-append}
 use Rattle.doc_values.specs.Tree.{Label, Forest, Nil, Node, size}
 use Rattle.doc_values.specs.Places.{label_at}
@@ -20,10 +20,15 @@ use Rattle.rule_names.specs.Pieces.{Piece, OfExpr, piece_at}
 use Rattle.value_compare.specs.code.Books.{has_text}
 use Rattle.rule_meaning.specs.PatternMatch.{pattern_in}
 use Rattle.rule_meaning.specs.StoreModel.{tree_of_piece, literal_at}
-use Rattle.value_compare.specs.code.Making.{AreRead, IsReadBook, Gains, IsNextOf, written}
-use Rattle.rule_meaning.specs.Patterns.{Written, written_if, is_sought, sought_text, patterns_in, patterns_at, patterns_of, patterns_of_piece}
+use Rattle.value_compare.specs.code.Making.{AreRead, IsReadBook, Gains, IsNextOf, see_written, written}
+use Rattle.value_compare.specs.declared.written.WrittenText.{WrittenText}
+use Rattle.rule_meaning.specs.Patterns.{Written, written_if, is_sought, sought_text, patterns_in, patterns_at, patterns_of_piece}
 use Rattle.rule_meaning.specs.Values.{is_text}
 use Rattle.value_compare.proofs.Nodes.{labels, length-labels, label-labels, patterns_in-labels}
+
+-- a text that stands for what is past the end of a list
+abbrev pub past_written : WrittenText
+past_written = record { text = record { ref_ptr = (0, 0); now = [] }; at = 0 }
 
 -- ---- gains
 
@@ -78,14 +83,34 @@ same-gains old new ws vs e f = subst (Gains old new) e f
 pub same-read : (ws vs : List Written) → ws ≡ vs → AreRead ws → AreRead vs
 same-read ws vs e f = subst AreRead e f
 
+-- a text more
+pub read-one : (w : Written) → IsSome (pattern_in w.text) → AreRead (w ∷ [])
+read-one w is zero d within = is
+read-one w is (suc k) d within = absurd (omega arith)
+
+pub one-more : (xs : List WrittenText) (i : ℕ) → i < length xs → map see_written (take i xs) ++ see_written (get_or xs i past_written) ∷ [] ≡ map see_written (take (i + 1) xs)
+one-more xs i within = sym (map_more see_written xs i past_written within)
+
+-- a book that was empty holds what it gained
+pub book-made : (old new : List (List ℕ)) (ws vs : List Written) → old ≡ [] → ws ≡ vs → Gains old new ws → (text : List ℕ) → has_text new text ≡ list_any (λ (w : Written). bytes_eq text w.text) vs
+book-made old new ws vs none same gains text =
+    gains text ∙ ap (λ (b : List (List ℕ)). has_text b text || list_any (λ (w : Written). bytes_eq text w.text) ws) none ∙ ap (λ (us : List Written). list_any (λ (w : Written). bytes_eq text w.text) us) same
+
 -- ---- what comes next
 
-pub next-in : (ws before piece after : List Written) (text : List ℕ) (at : ℕ) → ws ≡ before ++ (piece ++ after) → AreRead before → IsNextOf piece text at → IsNextOf ws text at
-next-in ws before piece after text at is read next =
-    (before ++ next.0, next.1 ++ after, is ∙ ap (λ p. before ++ (p ++ after)) next.2 ∙ ap (λ r. before ++ r) (append_assoc next.0 (record { text = text; at = at } ∷ next.1) after) ∙ sym (append_assoc before next.0 (record { text = text; at = at } ∷ (next.1 ++ after))), All-append (λ (w : Written). IsSome (pattern_in w.text)) before next.0 read next.3)
-
-pub next-one : (ws : List Written) (text : List ℕ) (at : ℕ) → ws ≡ record { text = text; at = at } ∷ [] → IsNextOf ws text at
-next-one ws text at is = ([], [], is, λ k d h. absurd (omega arith))
+-- one of the texts as the code has them, such that each before it is read
+pub next-written : (xs : List WrittenText) (i at : ℕ) → i < length xs → at ≡ (get_or xs i past_written).at → AreRead (map see_written (take i xs)) → IsNextOf (map see_written xs) (get_or xs i past_written).text.now at
+next-written xs i at within same read =
+    let x = get_or xs i past_written in
+    let before : List Written = map see_written (take i xs) in
+    let after : List Written = map see_written (drop (suc i) xs) in (
+      before,
+      after,
+      ap (map see_written) (sym (take-append-drop i xs)) ∙ map-append see_written (take i xs) (drop i xs)
+          ∙ ap (λ (rest : List WrittenText). before ++ map see_written rest) (drop-cons xs i past_written within)
+          ∙ ap (λ (n : ℕ). before ++ (record { text = x.text.now; at = n } ∷ after)) (sym same),
+      read,
+    )
 
 -- ---- faults
 
@@ -118,15 +143,6 @@ flat_map-one f x = append-nil (f x)
 pub sites-more : {Y : Type 0} (f : ℕ → List Y) (n : ℕ) → flat_map f (upto 0 (n + 1)) ≡ flat_map f (upto 0 n) ++ f n
 sites-more f n = ap (flat_map f) (upto-more n) ∙ flat_map-append f (upto 0 n) (n ∷ []) ∙ ap (λ ys. flat_map f (upto 0 n) ++ ys) (flat_map-one f n)
 
--- those before a site, its own, and those behind it
-pub sites-around : {Y : Type 0} (f : ℕ → List Y) (n many : ℕ) → n < many → flat_map f (upto 0 many) ≡ flat_map f (upto 0 n) ++ (f n ++ flat_map f (upto (n + 1) (many - (n + 1))))
-sites-around f n many h =
-    let e : many ≡ n + 1 + (many - (n + 1)) = omega arith in
-    let g : 0 + (n + 1) ≡ n + 1 = omega arith in
-    ap (λ k. flat_map f (upto 0 k)) e ∙ ap (flat_map f) (upto-split 0 (n + 1) (many - (n + 1)))
-    ∙ flat_map-append f (upto 0 (n + 1)) (upto (0 + (n + 1)) (many - (n + 1))) ∙ ap (λ ys. ys ++ flat_map f (upto (0 + (n + 1)) (many - (n + 1)))) (sites-more f n)
-    ∙ append_assoc (flat_map f (upto 0 n)) (f n) (flat_map f (upto (0 + (n + 1)) (many - (n + 1)))) ∙ ap (λ k. flat_map f (upto 0 n) ++ (f n ++ flat_map f (upto k (many - (n + 1))))) g
-
 -- the patterns of the nodes before one
 pub written_before : Forest → ℕ → List Written
 written_before tree n = flat_map written (take n (labels tree))
@@ -149,18 +165,19 @@ pub written_before-all : (tree : Forest) (n : ℕ) → size tree ≤ n → writt
 unfolding written_before
 written_before-all tree n h = let e = length-labels tree in ap (flat_map written) (take_all n (labels tree) (omega arith)) ∙ sym (patterns_in-labels tree)
 
-pub written_around : (tree : Forest) (n : ℕ) → n < size tree → patterns_in tree ≡ written_before tree n ++ (written (label_at tree n) ++ flat_map written (drop (n + 1) (labels tree)))
-unfolding written_before
-written_around tree n h =
-    let l : Label = label_at tree n in
-    let e = length-labels tree in
-    let within : n < length (labels tree) = omega arith in
-    patterns_in-labels tree ∙ ap (flat_map written) (sym (take-append-drop n (labels tree))) ∙ flat_map-append written (take n (labels tree)) (drop n (labels tree))
-    ∙ ap (λ ys. flat_map written (take n (labels tree)) ++ flat_map written ys) (drop-cons (labels tree) n l within)
-    ∙ ap (λ m. flat_map written (take n (labels tree)) ++ (written m ++ flat_map written (drop (suc n) (labels tree)))) (label-labels tree n l h)
-    ∙ ap (λ k. flat_map written (take n (labels tree)) ++ (written l ++ flat_map written (drop k (labels tree)))) (sym (add-one n))
-
 -- ---- literals
+
+-- texts that are added, where there are none
+pub none-written : (before ws : List Written) → ws ≡ [] → before ≡ before ++ ws
+none-written before ws none = sym (ap (λ (rest : List Written). before ++ rest) none ∙ append-nil before)
+
+-- a text that is added, by what it is and where it stands
+pub node-written : (before new : List WrittenText) (w : WrittenText) (text : List ℕ) (at : ℕ) → new ≡ before ++ w ∷ [] → w.text.now ≡ text → w.at ≡ at
+    → map see_written new ≡ map see_written before ++ record { text = text; at = at } ∷ []
+node-written before new w text at put one two =
+    ap (map see_written) put ∙ map-append see_written before (w ∷ [])
+    ∙ ap (λ (t : List ℕ). map see_written before ++ record { text = t; at = w.at } ∷ []) one
+    ∙ ap (λ (n : ℕ). map see_written before ++ record { text = text; at = n } ∷ []) two
 
 pub no_literal : (f : File) (site : ℕ) → literal_at f site ≡ None → patterns_at f site ≡ []
 no_literal f site e = by (is_sought f site) (piece_at f site) e
@@ -192,23 +209,3 @@ sought-nothing sought (Node l kids rest) e = absurd (omega arith)
 pub sought-root : (tree : Forest) → sought_text true tree ≡ written_if (is_text (label_at tree 0).kind) (label_at tree 0)
 sought-root Nil = refl
 sought-root (Node l kids rest) = refl
-
--- ---- the next pattern of a tree, and of a file
-
-pub next-node : (tree : Forest) (n : ℕ) (l : Label) (text : List ℕ) (at : ℕ) → n < size tree → l ≡ label_at tree n → AreRead (written_before tree n) → written l ≡ record { text = text; at = at } ∷ [] → IsNextOf (patterns_in tree) text at
-next-node tree n l text at within same read is =
-    next-in (patterns_in tree) (written_before tree n) (written (label_at tree n)) (flat_map written (drop (n + 1) (labels tree))) text at (written_around tree n within) read
-    (next-one (written (label_at tree n)) text at (ap written (sym same) ∙ is))
-
--- the text of a literal comes before the patterns in it
-pub next-text : (tree : Forest) (sought : Bool) (text : List ℕ) (at : ℕ) → sought_text sought tree ≡ record { text = text; at = at } ∷ [] → IsNextOf (sought_text sought tree ++ patterns_in tree) text at
-next-text tree sought text at is = next-in (sought_text sought tree ++ patterns_in tree) [] (sought_text sought tree) (patterns_in tree) text at refl read-none (next-one (sought_text sought tree) text at is)
-
-pub next-inside : (tree : Forest) (sought : Bool) (text : List ℕ) (at : ℕ) → AreRead (sought_text sought tree) → IsNextOf (patterns_in tree) text at → IsNextOf (sought_text sought tree ++ patterns_in tree) text at
-next-inside tree sought text at read next =
-    next-in (sought_text sought tree ++ patterns_in tree) (sought_text sought tree) (patterns_in tree) [] text at (ap (λ ws. sought_text sought tree ++ ws) (sym (append-nil (patterns_in tree)))) read next
-
-pub next-site : (f : File) (site : ℕ) (text : List ℕ) (at : ℕ) → site < length f.places → AreRead (flat_map (patterns_at f) (upto 0 site)) → IsNextOf (patterns_at f site) text at → IsNextOf (patterns_of f) text at
-next-site f site text at within read next =
-    next-in (patterns_of f) (flat_map (patterns_at f) (upto 0 site)) (patterns_at f site) (flat_map (patterns_at f) (upto (site + 1) (length f.places - (site + 1)))) text at
-    (sites-around (patterns_at f) site (length f.places) within) read next

@@ -5,5 +5,6 @@ pub mod Entries
 pub mod Kept
 pub mod Making
 pub mod Matching
+pub mod Settled
 pub mod Stores
 pub mod Views

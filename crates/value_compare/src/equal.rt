@@ -85,7 +85,10 @@ fn pair_text(
 {
     match right.kind() {
         Kind::Text => Ok(PairAnswer::told(left == right.text())),
-        Kind::Pattern => Ok(PairAnswer::told(matchers.finds(right.text(), left)?)),
+        Kind::Pattern => match matchers.finds(right.text(), left) {
+            Ok(found) => Ok(PairAnswer::told(found)),
+            Err(_) => Err(AllocError),
+        },
         _ => Ok(PairAnswer::Apart),
     }
 }

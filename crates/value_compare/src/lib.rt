@@ -19,6 +19,7 @@ mod sought;
 pub mod store;
 mod unary;
 pub mod view;
+mod written;
 
 pub use book::PatternBook;
 pub use made::MadeTrees;

@@ -15,7 +15,10 @@ pub(crate) fn literal(file: &RuleFile, site: u32) -> Option<&Doc<'static>>
     ensures tree { MatchOption result (literal_at (see_file file.entry.now.raw) site ≡ None) (λ tree. literal_at (see_file file.entry.now.raw) site ≡ Some tree.now) }
     ensures held { (book : List (List ℕ)) → IsBookOf (see_file file.entry.now.raw) book → IfSome result (λ tree. holds_in book tree.now ≡ true) }
 {
-    literal_of(file.find(site)?)
+    match file.find(site) {
+        Some(piece) => literal_of(piece),
+        None => None,
+    }
 }
 
 /// The same, from the table of the parts of a file.
@@ -24,7 +27,10 @@ pub(crate) fn literal_in<'f>(table: &PieceTable<'f>, site: u32) -> Option<&'f Do
         (literal_at (see_file table.entry.now.file.now.raw) site ≡ None)
         (λ tree. literal_at (see_file table.entry.now.file.now.raw) site ≡ Some tree.now) }
 {
-    literal_of(table.find(site)?)
+    match table.find(site) {
+        Some(piece) => literal_of(piece),
+        None => None,
+    }
 }
 
 /// The tree of a part that is a literal.

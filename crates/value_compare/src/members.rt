@@ -1,11 +1,13 @@
-//! Whether values are members of others.
+//! Whether values are equal to right ones or members of them, each asked one after another.
 ghost use Rattle.std.specs.Prelude.{◌≡◌, true, false, map, IfOk, MatchOption};
 ghost use Rattle.std.specs.List.{list_all, list_any};
 ghost use Rattle.doc_values.specs.Places.{kids_at};
+ghost use Rattle.guard_syntax.specs.declared.syntax.Op.TheVariants.{Within};
 ghost use Rattle.value_compare.specs.code.BookCovers.{holds_in, covers};
-ghost use Rattle.rule_meaning.specs.Pairs.{equal, is_no, is_yes, told};
-ghost use Rattle.rule_meaning.specs.RowTests.{is_in, is_member_of_some, is_not_in, is_some_right, member};
+ghost use Rattle.rule_meaning.specs.Pairs.{equal, is_yes, told};
+ghost use Rattle.rule_meaning.specs.RowTests.{binary, is_some_right, member};
 ghost use Rattle.rule_meaning.specs.Values.{is_list, value_at, values_in};
+ghost use Rattle.value_compare.specs.code.Settled.{answer_to, ends, items_settled, settled};
 ghost use Rattle.value_compare.specs.code.Views.{see_view};
 
 use crate::equal::pair_equal;
@@ -15,44 +17,33 @@ use doc_values::{Cursor, Kind};
 use rule_meaning::PairAnswer;
 use std::alloc::AllocError;
 
-/// Whether a value is in right ones; a list is also in where each of its items is.
-pub(crate) fn within(
-    matchers: &mut Matchers<'_>,
-    left: View<'_, '_>,
-    rights: &[View<'_, '_>],
-) -> Result<bool, AllocError>
-    requires some { is_some_right (map see_view rights.now) ≡ true }
-    requires held { list_all (λ r. covers matchers.old.book.now (see_view r)) rights.now ≡ true }
-    ensures answer { IfOk result (λ b. b ≡ is_in (is_list (see_view left.entry).kind) (see_view left.entry) (map see_view rights.entry.now)) }
-    ensures kept { matchers.new.book.now ≡ matchers.old.book.now }
-{
-    if is_member(matchers, left, rights)? {
-        return Ok(true);
-    }
-    let Some(list) = list_of(left) else {
-        return Ok(false);
-    };
-    are_members(matchers, list, rights)
+/// What may be asked of a value and a right one: whether it is equal, or a member.
+#[derive(Clone, Copy)]
+pub(crate) enum Asked {
+    Equal,
+    Member,
 }
 
-/// Whether a value is outside right ones; a list is so where neither it nor one of its items is a member.
-pub(crate) fn outside(
+/// Whether a value is in right ones; a list is also in where each of its items is a member. Negated, whether it is outside
+/// them; a list is so where neither it nor one of its items is a member.
+pub(crate) fn within(
     matchers: &mut Matchers<'_>,
+    not: bool,
     left: View<'_, '_>,
     rights: &[View<'_, '_>],
 ) -> Result<bool, AllocError>
     requires some { is_some_right (map see_view rights.now) ≡ true }
     requires held { list_all (λ r. covers matchers.old.book.now (see_view r)) rights.now ≡ true }
-    ensures answer { IfOk result (λ b. b ≡ is_not_in (is_list (see_view left.entry).kind) (see_view left.entry) (map see_view rights.entry.now)) }
+    ensures answer { IfOk result (λ b. b ≡ binary Within not (see_view left.entry) (map see_view rights.entry.now)) }
     ensures kept { matchers.new.book.now ≡ matchers.old.book.now }
 {
     let Some(list) = list_of(left) else {
-        return is_outside_each(matchers, left, rights);
+        return settles(matchers, Asked::Member, not, left, rights);
     };
-    if is_member(matchers, left, rights)? {
-        return Ok(false);
+    if settles(matchers, Asked::Member, false, left, rights)? {
+        return Ok(!not);
     }
-    Ok(!has_member(matchers, list, rights)?)
+    items_settle(matchers, not, list, rights)
 }
 
 /// The list that a value is.
@@ -105,76 +96,71 @@ fn item_equal(
     Ok(PairAnswer::No)
 }
 
-/// Whether a value is a member of a right one among these.
-fn is_member(
+/// What is asked of a value and a right one.
+fn answer_to(
     matchers: &mut Matchers<'_>,
+    asked: Asked,
+    left: View<'_, '_>,
+    right: View<'_, '_>,
+) -> Result<PairAnswer, AllocError>
+    requires { covers matchers.old.book.now (see_view right) ≡ true }
+    ensures answer { IfOk result (λ a. a ≡ answer_to asked (see_view left.entry) (see_view right.entry)) }
+    ensures kept { matchers.new.book.now ≡ matchers.old.book.now }
+{
+    match asked {
+        Asked::Equal => pair_equal(matchers, left, right),
+        Asked::Member => member(matchers, left, right),
+    }
+}
+
+/// Whether a right value answers yes; negated, whether each answers no.
+pub(crate) fn settles(
+    matchers: &mut Matchers<'_>,
+    asked: Asked,
+    not: bool,
     left: View<'_, '_>,
     rights: &[View<'_, '_>],
 ) -> Result<bool, AllocError>
     requires { list_all (λ r. covers matchers.old.book.now (see_view r)) rights.now ≡ true }
-    ensures answer { IfOk result (λ b. b ≡ is_member_of_some (map see_view rights.entry.now) (see_view left.entry)) }
+    ensures answer { IfOk result (λ b. b ≡ settled not asked (see_view left.entry) (map see_view rights.entry.now)) }
     ensures kept { matchers.new.book.now ≡ matchers.old.book.now }
 {
     for right in rights {
-        match member(matchers, left, *right)? {
-            PairAnswer::Yes => return Ok(true),
-            PairAnswer::No | PairAnswer::Apart => {}
+        let answer = answer_to(matchers, asked, left, *right)?;
+        if ends(not, answer) {
+            return Ok(!not);
         }
     }
-    Ok(false)
+    Ok(not)
 }
 
-/// Whether a value is known to be outside each right one.
-fn is_outside_each(
-    matchers: &mut Matchers<'_>,
-    left: View<'_, '_>,
-    rights: &[View<'_, '_>],
-) -> Result<bool, AllocError>
-    requires { list_all (λ r. covers matchers.old.book.now (see_view r)) rights.now ≡ true }
-    ensures answer { IfOk result (λ b. b ≡ list_all (λ r. is_no (member (see_view left.entry) r)) (map see_view rights.entry.now)) }
-    ensures kept { matchers.new.book.now ≡ matchers.old.book.now }
+/// Whether no further right value is asked behind this answer.
+fn ends(not: bool, answer: PairAnswer) -> bool
+    ensures { result ≡ ends not answer }
 {
-    for right in rights {
-        match member(matchers, left, *right)? {
-            PairAnswer::No => {}
-            PairAnswer::Yes | PairAnswer::Apart => return Ok(false),
-        }
+    match answer {
+        PairAnswer::Yes => true,
+        PairAnswer::No => false,
+        PairAnswer::Apart => not,
     }
-    Ok(true)
 }
 
-/// Whether each item of a list is a member of a right value.
-fn are_members(
+/// Whether each item of a list is a member of a right value; negated, whether none is.
+fn items_settle(
     matchers: &mut Matchers<'_>,
+    not: bool,
     list: Cursor<'_, '_>,
     rights: &[View<'_, '_>],
 ) -> Result<bool, AllocError>
     requires { list_all (λ r. covers matchers.old.book.now (see_view r)) rights.now ≡ true }
-    ensures answer { IfOk result (λ b. b ≡ list_all (is_member_of_some (map see_view rights.entry.now)) (values_in (kids_at list.entry.doc.now list.entry.id))) }
+    ensures answer { IfOk result (λ b. b ≡ items_settled not (map see_view rights.entry.now) (values_in (kids_at list.entry.doc.now list.entry.id))) }
     ensures kept { matchers.new.book.now ≡ matchers.old.book.now }
 {
     for i in 0..list.len() {
-        if !is_member(matchers, View::At(list.child(i)), rights)? {
+        let item = View::At(list.child(i));
+        if settles(matchers, Asked::Member, false, item, rights)? == not {
             return Ok(false);
         }
     }
     Ok(true)
-}
-
-/// Whether an item of a list is a member of a right value.
-fn has_member(
-    matchers: &mut Matchers<'_>,
-    list: Cursor<'_, '_>,
-    rights: &[View<'_, '_>],
-) -> Result<bool, AllocError>
-    requires { list_all (λ r. covers matchers.old.book.now (see_view r)) rights.now ≡ true }
-    ensures answer { IfOk result (λ b. b ≡ list_any (is_member_of_some (map see_view rights.entry.now)) (values_in (kids_at list.entry.doc.now list.entry.id))) }
-    ensures kept { matchers.new.book.now ≡ matchers.old.book.now }
-{
-    for i in 0..list.len() {
-        if is_member(matchers, View::At(list.child(i)), rights)? {
-            return Ok(true);
-        }
-    }
-    Ok(false)
 }

@@ -56,13 +56,17 @@ impl Pattern {
         ensures pattern { IfOk result (λ r. r.pattern.now ≡ self.entry.now) }
         ensures template { IfOk result (λ r. r.template.now ≡ template.entry.now) }
     {
-        let read = Template::new(alloc, self.regex.capture_names(), template)?;
-        let matcher = self.regex.matcher(alloc)?;
-        Ok(Replacer {
-            pattern: self,
-            template,
-            matcher,
-            read,
-        })
+        let Ok(read) = Template::new(alloc, self.regex.capture_names(), template) else {
+            return Err(AllocError);
+        };
+        match self.regex.matcher(alloc) {
+            Ok(matcher) => Ok(Replacer {
+                pattern: self,
+                template,
+                matcher,
+                read,
+            }),
+            Err(_) => Err(AllocError),
+        }
     }
 }

@@ -1,25 +1,23 @@
 //! Tests on one row.
 ghost use Rattle.std.specs.Prelude.{◌≡◌, ℕ, List, [], IfSome, None, Some, true, false, map, IfOk, IsOk, MatchOption};
-ghost use Rattle.std.specs.List.{list_all, list_any};
+ghost use Rattle.std.specs.List.{list_all};
 ghost use Rattle.std.specs.Option.{option_map_or};
 ghost use Rattle.guard_syntax.specs.code.Seen.{see_file};
 ghost use Rattle.value_compare.specs.code.Books.{IsBookOf};
 ghost use Rattle.value_compare.specs.code.BookCovers.{covers};
 ghost use Rattle.rule_meaning.specs.StoreModel.{meant, is_known};
-ghost use Rattle.rule_meaning.specs.Pairs.{equal, is_no, is_order, is_yes, ordered};
+ghost use Rattle.rule_meaning.specs.Pairs.{is_order, is_yes, ordered};
 ghost use Rattle.rule_meaning.specs.RowTests.{binary, found_of, is_binary, is_some_right, row_test_of};
 ghost use Rattle.value_compare.specs.code.Stores.{see_store};
 ghost use Rattle.value_compare.specs.code.Views.{see_view};
 
-use crate::equal::pair_equal;
 use crate::matchers::Matchers;
-use crate::members::{outside, within};
+use crate::members::{Asked, settles, within};
 use crate::order::pair_order;
 use crate::store::Store;
 use crate::unary::unary_test;
 use crate::view::View;
 use guard_syntax::{Op, Row};
-use rule_meaning::PairAnswer;
 use std::alloc::{AllocError, Global};
 
 /// Whether a left row passes a test against the right rows; a unary test has none. The store knows each row, and the book
@@ -57,8 +55,10 @@ pub fn row_test(
     if is_order(op) {
         return Ok(stands_to_each(op, left, right, store));
     }
-    let rights = found_rows(matchers.alloc, right, store)?;
-    binary_test(matchers, op, not, left, &rights)
+    match found_rows(matchers.alloc, right, store) {
+        Ok(rights) => binary_test(matchers, op, not, left, &rights),
+        Err(_) => Err(AllocError),
+    }
 }
 
 /// Whether a test asks for an order.
@@ -135,60 +135,10 @@ fn binary_test(
     ensures kept { matchers.new.book.now ≡ matchers.old.book.now }
 {
     match op {
-        Op::Eq => {
-            if not {
-                differs_from_each(matchers, left, rights)
-            } else {
-                equals_some(matchers, left, rights)
-            }
-        }
-        Op::Within => {
-            if not {
-                outside(matchers, left, rights)
-            } else {
-                within(matchers, left, rights)
-            }
-        }
+        Op::Eq => settles(matchers, Asked::Equal, not, left, rights),
+        Op::Within => within(matchers, not, left, rights),
         _ => unreachable!(),
     }
-}
-
-/// `==`: a right value is equal.
-fn equals_some(
-    matchers: &mut Matchers<'_>,
-    left: View<'_, '_>,
-    rights: &[View<'_, '_>],
-) -> Result<bool, AllocError>
-    requires { list_all (λ r. covers matchers.old.book.now (see_view r)) rights.now ≡ true }
-    ensures answer { IfOk result (λ b. b ≡ list_any (λ r. is_yes (equal (see_view left.entry) r)) (map see_view rights.entry.now)) }
-    ensures kept { matchers.new.book.now ≡ matchers.old.book.now }
-{
-    for right in rights {
-        match pair_equal(matchers, left, *right)? {
-            PairAnswer::Yes => return Ok(true),
-            PairAnswer::No | PairAnswer::Apart => {}
-        }
-    }
-    Ok(false)
-}
-
-/// `!=`: each right value is known to be another.
-fn differs_from_each(
-    matchers: &mut Matchers<'_>,
-    left: View<'_, '_>,
-    rights: &[View<'_, '_>],
-) -> Result<bool, AllocError>
-    requires { list_all (λ r. covers matchers.old.book.now (see_view r)) rights.now ≡ true }
-    ensures answer { IfOk result (λ b. b ≡ list_all (λ r. is_no (equal (see_view left.entry) r)) (map see_view rights.entry.now)) }
-    ensures kept { matchers.new.book.now ≡ matchers.old.book.now }
-{
-    for right in rights {
-        match pair_equal(matchers, left, *right)? {
-            PairAnswer::No => {}
-            PairAnswer::Yes | PairAnswer::Apart => return Ok(false),
-        }
-    }
-    Ok(true)
 }
 
 /// `<`, `<=`, `>`, `>=`: the order holds with each right value, of which there is one. It takes no memory.

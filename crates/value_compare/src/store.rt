@@ -138,11 +138,13 @@ fn kept_at<'t>(
 ) -> Option<&'t Doc<'static>>
     ensures { (f : File) → AreKept f literals.entry.now → IfSome result (λ tree. literal_at f site ≡ Some tree.now) }
 {
-    let kept = literals.get(place? as usize)?;
-    if kept.site == site {
-        return Some(kept.tree);
+    let Some(place) = place else {
+        return None;
+    };
+    match literals.get(place as usize) {
+        Some(kept) if kept.site == site => Some(kept.tree),
+        _ => None,
     }
-    None
 }
 
 /// Notes where the literal of a site is kept.

@@ -59,3 +59,9 @@ returns-in-Count-clause-rows c = grind (arith, common_steps)
 
 pub returns-in-RegexReplace-clause-no_memory : goal.returns-in-RegexReplace-clause-no_memory
 returns-in-RegexReplace-clause-no_memory c = grind (arith, common_steps)
+
+pub returns-in-Join-clause-rows : goal.returns-in-Join-clause-rows
+returns-in-Join-clause-rows c = grind (arith, common_steps)
+
+pub returns-in-Substring-clause-no_memory : goal.returns-in-Substring-clause-no_memory
+returns-in-Substring-clause-no_memory c = grind (arith, common_steps)

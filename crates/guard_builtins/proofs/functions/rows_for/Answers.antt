@@ -14,3 +14,6 @@ loop-row-preserved g c = record {
 
 pub returns-clause-plain : goal.returns-clause-plain
 returns-clause-plain g c = rows-plain (g.C.ValueChange.changing c.args.change.now) (see_store c.args.store.now) c.args.site (take c.loop-row.row-index c.args.rows.now) c.loop-row.made.items c.loop-row.invariant.rows
+
+pub returns-clause-rows : goal.returns-clause-rows
+returns-clause-rows g c = grind (arith, common_steps)

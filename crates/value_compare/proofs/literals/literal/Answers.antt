@@ -6,7 +6,7 @@ use Rattle.rule_meaning.specs.StoreModel.{tree_of_piece}
 use Rattle.value_compare.proofs.KeptLiterals.{found-held}
 use Rattle.value_compare.proofs.literals.literal.Goals as goal
 
-pub returns-clause-held : goal.returns-clause-held
-returns-clause-held c = λ book is_book.
-    found-held (see_file c.args.file.now.raw) book c.args.site c.literal_of.result (tree_of_piece (see_piece c.in_ok-find.field-0)) c.args.file.now.sites is_book
-    (ap (option_and_then tree_of_piece) (sym c.in_ok-find.ensures)) c.literal_of.ensures
+pub returns-in-Some-clause-held : goal.returns-in-Some-clause-held
+returns-in-Some-clause-held c = λ book is_book.
+    found-held (see_file c.args.file.now.raw) book c.args.site c.literal_of.result (tree_of_piece (see_piece c.in-Some.piece)) c.args.file.now.sites is_book
+    (ap (option_and_then tree_of_piece) (sym c.in-Some.ensures)) c.literal_of.ensures

@@ -1,4 +1,5 @@
-use Rattle.std.proofs.Common.{◌≡◌, ◌++◌, ◌∷◌, [], ap, map, ◌∙◌, Vec, Global}
+use Rattle.std.proofs.lemmas.Grind.{common_steps}
+use Rattle.std.proofs.Common.{◌≡◌, ◌++◌, ◌∷◌, [], ap, map, ◌∙◌, Vec, Global, arith}
 use Rattle.std.specs.List.{list_all}
 use Rattle.value_compare.specs.code.BookCovers.{covers}
 use Rattle.value_compare.specs.code.Stores.{see_store}
@@ -23,3 +24,6 @@ loop-row-preserved c = elim c.match-found.branch [
         held = λ book is_book. ap (list_all (λ r. covers book (see_view r))) same ∙ c.loop-row.invariant.held book is_book;
       }
 ]
+
+pub returns-clause-values : goal.returns-clause-values
+returns-clause-values c = grind (arith, common_steps)

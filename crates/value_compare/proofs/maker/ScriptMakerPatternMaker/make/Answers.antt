@@ -1,4 +1,5 @@
-use Rattle.std.proofs.Common.{ℕ, List, sym, ap, ◌∙◌, true≢false}
+use Rattle.std.proofs.lemmas.Grind.{common_steps}
+use Rattle.std.proofs.Common.{ℕ, List, sym, ap, ◌∙◌, arith, true≢false}
 use Rattle.std.specs.Prelude.{nat_eq}
 use Rattle.std.specs.List.{list_any}
 use Rattle.value_compare.proofs.maker.ScriptMakerPatternMaker.make.Goals as goal
@@ -11,3 +12,6 @@ returns-else-contains-2-clause-planned c = λ planned.
     ∙ ap (λ (xs : List ℕ). list_any (λ n. nat_eq n call) xs) (sym c.deref.ensures.value)
     ∙ sym c.contains.ensures.value
     ∙ c.if-contains.false))
+
+pub returns-else-contains : goal.returns-else-contains
+returns-else-contains c = grind (arith, common_steps)

@@ -5,6 +5,6 @@ pub invariant_of-result : goal.invariant_of-result
 invariant_of-result c = record {
   fits = rw (← c.self.view_is)
       (λ hay out bytes written.
-      replaced_as_text c.self.inside.regex c.in_ok-matcher.matcher c.in_ok-read.read c.args.template.now hay out bytes c.self.invariant.0 c.self.invariant.1
-      c.in_ok-matcher.ensures.pattern (rw c.capture_names.ensures at c.in_ok-read.ensures.read) written);
+      replaced_as_text c.self.inside.regex c.in-Ok-matcher.matcher c.in-Ok.read c.args.template.now hay out bytes c.self.invariant.0 c.self.invariant.1
+      c.in-Ok-matcher.ensures.pattern (rw c.capture_names.ensures at c.in-Ok.ensures.read) written);
 }
