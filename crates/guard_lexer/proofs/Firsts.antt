@@ -5,6 +5,7 @@ use Rattle.std.proofs.lemmas.Bool.{true≢false}
 use Rattle.std.proofs.lemmas.Bool.Decides.{nat_tests}
 use Rattle.std.proofs.lemmas.Option.{none-some}
 use Rattle.std.proofs.lemmas.List.{append-nil, take-append-drop}
+use Rattle.guard_lexer.specs.declared.token.Mark.{Mark}
 use Rattle.guard_lexer.specs.declared.token.Token.{Token}
 use Rattle.guard_lexer.specs.declared.token.TokenKind.{TokenKind}
 use Rattle.guard_lexer.specs.declared.token.TokenKind.TheVariants as k
@@ -151,8 +152,15 @@ pat_open m r c (Sign mark, o, none) = o
 str_found : (dot : Bool) (q : ℕ) (m r : List ℕ) (n : ℕ) → (q ≡ 34) ⊎ (q ≡ 39) → q ≢ 92 → Closes q m → length m ≡ n → reach dot (q ∷ (m ++ r)) ≡ suc n → Found dot k.Str (q ∷ (m ++ r)) (suc n)
 str_found dot q m r n e h c s i = found dot k.Str (q ∷ (m ++ r)) (q ∷ m) r (suc n) refl (ap suc s) i (e, c) tt (str_open q m r e c) (λ x _. cc)
 
+-- patterns and marks are no numbers
+pat_apart : Pat ≡ Numeral → ⊥
+pat_apart e = cc
+
+pub sign_apart : (mark : Mark) → Sign mark ≡ Numeral → ⊥
+sign_apart mark e = cc
+
 pat_found : (dot : Bool) (m r : List ℕ) (n : ℕ) → Closes 47 m → length m ≡ n → reach dot (47 ∷ (m ++ r)) ≡ suc n → Found dot k.Pat (47 ∷ (m ++ r)) (suc n)
-pat_found dot m r n c s i = found dot k.Pat (47 ∷ (m ++ r)) (47 ∷ m) r (suc n) refl (ap suc s) i (refl, c) tt (pat_open m r c) (λ x _. cc)
+pat_found dot m r n c s i = found dot k.Pat (47 ∷ (m ++ r)) (47 ∷ m) r (suc n) refl (ap suc s) i (refl, c) tt (pat_open m r c) (λ x _. pat_apart x)
 
 double_quoted : (dot : Bool) (bs : List ℕ) (n : ℕ) → closing 34 false bs ≡ Some n → Found dot k.Str (34 ∷ bs) (suc n)
 double_quoted dot bs n e = let f = closed_form 34 bs n (below 34 (omega arith)) e in

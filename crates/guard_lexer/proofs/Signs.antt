@@ -12,7 +12,7 @@ use Rattle.guard_lexer.specs.code.Firsts.{IsOther}
 use Rattle.guard_lexer.proofs.Lists.{tested, same_byte, other_byte, is_byte, not_byte, head_is, tail_is, on_true, on_false}
 use Rattle.guard_lexer.proofs.Reaches.{note_is}
 use Rattle.guard_lexer.proofs.Ends.{noted_form}
-use Rattle.guard_lexer.proofs.Firsts.{Found, found, not_open, bad_first}
+use Rattle.guard_lexer.proofs.Firsts.{Found, found, sign_apart, not_open, bad_first}
 
 note_closed : (m r : List ℕ) → EndsNote m → IsUnclosed (60 ∷ 60 ∷ (m ++ r)) → ⊥
 note_closed m r h (Note, o, none) = none (60 ∷ 60 ∷ m) r refl (m, refl, h)
@@ -48,7 +48,7 @@ other_reach : (dot : Bool) (b : ℕ) (bs : List ℕ) → IsOther b → reach dot
 other_reach dot b bs o = let p = not_byte b 37 o.percent in rw (o.letter, o.numeral, p, o.quote) refl
 
 pub single_found : (dot : Bool) (b : ℕ) (bs : List ℕ) (mark : Mark) → IsOther b → is_single b ≡ true → mark_text mark ≡ b ∷ [] → sign_reach b bs ≡ single_reach b → (IsUnclosed (b ∷ bs) → ⊥) → Found dot (k.Mark mark) (b ∷ bs) 1
-single_found dot b bs mark o s t e closed = found dot (k.Mark mark) (b ∷ bs) (b ∷ []) bs 1 refl refl (other_reach dot b bs o ∙ e ∙ on_true (is_single b) 1 0 s) (sym t) tt closed (λ x _. cc)
+single_found dot b bs mark o s t e closed = found dot (k.Mark mark) (b ∷ bs) (b ∷ []) bs 1 refl refl (other_reach dot b bs o ∙ e ∙ on_true (is_single b) 1 0 s) (sym t) tt closed (λ x _. sign_apart mark x)
 
 pub single_bad : (dot : Bool) (at b : ℕ) (bs : List ℕ) → IsOther b → is_single b ≡ false → sign_reach b bs ≡ single_reach b → (IsUnclosed (b ∷ bs) → ⊥) → IsFault dot at (b ∷ bs) (r.BadByte at)
 single_bad dot at b bs o s e closed = bad_first dot at b bs o.blank (other_reach dot b bs o ∙ e ∙ on_false (is_single b) 1 0 s) closed
@@ -65,7 +65,7 @@ equals_closed b bs o = not_open b (61 ∷ bs) o.quote (λ c cs e f g. other_byte
 
 pub double_found : (dot : Bool) (b : ℕ) (bs : List ℕ) (mark : Mark) → IsOther b → is_doubled b ≡ true → mark_text mark ≡ b ∷ 61 ∷ [] → Found dot (k.Mark mark) (b ∷ 61 ∷ bs) 2
 double_found dot b bs mark o d t =
-    found dot (k.Mark mark) (b ∷ 61 ∷ bs) (b ∷ 61 ∷ []) bs 2 refl refl (other_reach dot b (61 ∷ bs) o ∙ equals_reach b bs ∙ on_true (is_doubled b) 2 (single_reach b) d) (sym t) tt (equals_closed b bs o) (λ x _. cc)
+    found dot (k.Mark mark) (b ∷ 61 ∷ bs) (b ∷ 61 ∷ []) bs 2 refl refl (other_reach dot b (61 ∷ bs) o ∙ equals_reach b bs ∙ on_true (is_doubled b) 2 (single_reach b) d) (sym t) tt (equals_closed b bs o) (λ x _. sign_apart mark x)
 
 -- where the byte before `=` is doubled by no mark, and at any other byte behind it, the mark of one byte is alone
 pub equals_alone : (b : ℕ) (bs : List ℕ) → IsOther b → is_doubled b ≡ false → (sign_reach b (61 ∷ bs) ≡ single_reach b) × (IsUnclosed (b ∷ 61 ∷ bs) → ⊥)

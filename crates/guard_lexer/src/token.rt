@@ -3,7 +3,7 @@ use doc_values::Decimal;
 use thiserror::Error;
 
 /// A token: its kind, the byte offset of its first byte, and that behind its last.
-#[derive(Clone, Copy, Debug, PartialEq, Eq)]
+#[derive(Clone, Copy)]
 pub struct Token {
     pub kind: TokenKind,
     pub from: u32,
@@ -11,7 +11,7 @@ pub struct Token {
 }
 
 /// What a token is. Names, texts, patterns and notes are read from the bytes of their span.
-#[derive(Clone, Copy, Debug, PartialEq, Eq)]
+#[derive(Clone, Copy)]
 pub enum TokenKind {
     Name,
     /// Names joined by `::`.
@@ -30,7 +30,7 @@ pub enum TokenKind {
 }
 
 /// A mark of one or two bytes.
-#[derive(Clone, Copy, Debug, PartialEq, Eq)]
+#[derive(Clone, Copy)]
 pub enum Mark {
     LBrace,
     RBrace,
@@ -58,7 +58,7 @@ pub enum Mark {
 }
 
 /// Why a text is no list of tokens, with a byte offset.
-#[derive(Clone, Copy, Debug, PartialEq, Eq, Error)]
+#[derive(Clone, Copy, Debug, Error)]
 pub enum LexRefusal {
     /// A text, pattern or note without its end, at its opening quote, slash or `<<`.
     #[error("a text, pattern or note without its end")]

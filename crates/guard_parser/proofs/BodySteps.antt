@@ -1,5 +1,8 @@
 -- One turn of the code that reads the lets and the parts of a body is one turn of the reading.
-use Rattle.std.proofs.Common.{◌≡◌, ◌≢◌, ℕ, suc, ◌+◌, ◌-◌, ◌<◌, ◌≤◌, Bool, true, false, cond, List, [], ◌∷◌, ◌++◌, map, length, refl, ap, sym, ◌∙◌}
+use Rattle.std.proofs.Common.{◌≡◌, ◌≢◌, ℕ, suc, ◌+◌, ◌-◌, ◌<◌, ◌≤◌, ◌==◌, Bool, true, false, arith, cond, List, [], ◌∷◌, ◌++◌, map, length, refl, ap, sym, ◌∙◌}
+use Rattle.std.proofs.lemmas.Bool.Decides.{nat_tests}
+use Rattle.std.specs.Global.{Vec}
+use Rattle.std.specs.Vec.{vec_len}
 use Rattle.guard_syntax.specs.Syntax as sx
 use Rattle.guard_syntax.specs.code.Seen.{prepend, disj_list, let_list, see_disj, see_let}
 use Rattle.guard_syntax.specs.declared.syntax.Disj.{Disj}
@@ -56,6 +59,13 @@ module _ {A : Type 0} (next : BodyItems → Parser A) (ls : List sx.Let) (ds : L
 
   pub items_spent : turns ≤ turn → list 0 st seen ≡ Fail seen → total ≡ Fail seen
   items_spent done e = so_far ∙ ap (λ (k : ℕ). gathered next ls ds (list k st seen)) (no_more turns turn done) ∙ ap (gathered next ls ds) e
+
+-- emptiness as the code tests it
+pub none_there : {X : Type 0} (v : Vec X) {b : Bool} → b ≡ (vec_len v == 0) → b ≡ true → length v.items ≡ 0
+none_there v is holds = let test : (vec_len v == 0) ≡ true = sym is ∙ holds in let counted = v.ok in grind (arith, nat_tests, test, counted)
+
+pub some_there : {X : Type 0} (v : Vec X) {b : Bool} → b ≡ (vec_len v == 0) → b ≡ false → length v.items ≢ 0
+some_there v is fails = λ none. let test : (vec_len v == 0) ≡ false = sym is ∙ fails in let counted = v.ok in grind (arith, nat_tests, test, counted, none)
 
 -- a body ends where it has a part
 pub none_filled : (tokens : Tokens) (depth : ℕ) (ls : List Let) (ds : List Disj) (st : State) (seen : ℕ) → length ds ≡ 0

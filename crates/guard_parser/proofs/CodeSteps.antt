@@ -7,10 +7,11 @@ use Rattle.literal_parser.specs.Lexemes.{Lexeme}
 use Rattle.literal_parser.specs.Forms.{form}
 use Rattle.literal_parser.specs.States.{State}
 use Rattle.literal_parser.specs.code.Parser.{One, Outcome, Read, Fail, Parser, and_then, ◌>>=◌, ◌>>◌, pure, choose, choose_next, choose_pair}
-use Rattle.literal_parser.specs.code.Reads.{Reads}
+use Rattle.literal_parser.specs.code.Reads.{Reads, state_of}
 use Rattle.literal_parser.specs.declared.cursor.Halt.{Halt}
 use Rattle.literal_parser.specs.declared.cursor.Halt.TheVariants.{Dead, NoMemory}
 use Rattle.literal_parser.specs.declared.token_cursor.Cursor.{Cursor}
+use Rattle.guard_parser.specs.code.Adding.{Adds}
 use Rattle.guard_parser.specs.code.Reading.{numbered}
 use Rattle.literal_parser.specs.code.LiteralReading.{literal_of}
 use Rattle.guard_parser.specs.code.GrammarReads.{listed}
@@ -23,6 +24,14 @@ pub saw : {A : Type 0} {r : Outcome A} {v w : Bool} {st1 : State} {seen1 : ℕ} 
 unfolding choose
 saw {w = w} {st1 = st1} s f p q st seen e d g h k =
     ap (λ x. (cond x p q) st (max seen st.at)) (sym e ∙ d) ∙ ap (λ x. (cond w p q) x (max seen st.at)) (sym g) ∙ ap (λ x. (cond w p q) st1 x) (sym h) ∙ k
+
+-- what was read, as it is seen
+pub seen_as : {A : Type 0} {o : Outcome A} {a b : A} {st : State} {seen : ℕ} → o ≡ Read a st seen → b ≡ a → o ≡ Read b st seen
+seen_as {A = A} {st = st} {seen = seen} e f = e ∙ sym (ap (λ (x : A). Read x st seen) f)
+
+-- a test whose value is known
+pub tested_by : {A : Type 0} {r : Outcome A} {v w : Bool} (b : Bool) (p q : Parser A) (st : State) (seen : ℕ) → v ≡ b → v ≡ w → (cond w p q) st seen ≡ r → (cond b p q) st seen ≡ r
+tested_by b p q st seen e d k = ap (λ x. (cond x p q) st seen) (sym e ∙ d) ∙ k
 
 pub saw_next : {A : Type 0} {r : Outcome A} {v w : Bool} {st1 : State} {seen1 : ℕ} (s : ℕ → Lexeme) (f : ℕ → Bool) (p q : Parser A) (st : State) (seen : ℕ) →
     v ≡ f (form (s (suc st.at))) → v ≡ w → st1 ≡ st → seen1 ≡ max seen (suc st.at) → (cond w p q) st1 seen1 ≡ r → choose_next s f p q st seen ≡ r
@@ -89,6 +98,27 @@ closed_by a o (Err (Dead k)) c h = ap (λ z. and_then z (λ _. pure a)) h
 pub then_fail : {A B : Type 0} {o : Outcome A} {k : ℕ} (f : A → Parser B) → o ≡ Fail k → and_then o f ≡ Fail k
 then_fail f e = ap (λ o. and_then o f) e
 
+-- ---- what is added
+
+-- an item that was added was read
+pub taken : {X A : Type 0} (see : X → A) (o : Outcome A) (item : Result X Halt) (old new : List X) (c : Cursor) {u : One} → Reads see o item c → Adds item old new (Ok u)
+    → (x : X) × (o ≡ Read (see x) (state_of c) c.seen) × (new ≡ old ++ x ∷ [])
+unfolding Adds
+taken see o (Ok x) old new c reads adds = (x, reads, adds)
+taken see o (Err e) old new c reads adds = absurd adds
+
+out_of_memory : {Y B : Type 0} (see : Y → B) (total : Outcome B) (r : Result Y Halt) (e : Halt) (c : Cursor) → IsErrAnd r (λ (y : Halt). y ≡ e) → e ≡ NoMemory → Reads see total r c
+out_of_memory see total (Ok x) e c is m = absurd is
+out_of_memory see total (Err NoMemory) e c is m = tt
+out_of_memory see total (Err (Dead k)) e c is m = absurd cc
+
+-- it ends where no item was read, or there was no memory for one
+pub halted_adding : {X Y A B : Type 0} (see1 : X → A) (see2 : Y → B) (o : Outcome A) (total : Outcome B) (item : Result X Halt) (old new : List X) (r : Result Y Halt) (e : Halt) (c d : Cursor)
+    → IsErrAnd r (λ (y : Halt). y ≡ e) → ((k : ℕ) → o ≡ Fail k → total ≡ Fail k) → Reads see1 o item d → Adds item old new (Err e) → Reads see2 total r c
+unfolding Adds
+halted_adding see1 see2 o total (Ok x) old new r e c d is g h adds = out_of_memory see2 total r e c is adds
+halted_adding see1 see2 o total (Err z) old new r e c d is g h adds = halted_by see1 see2 o total r z c d (subst (λ (w : Halt). IsErrAnd r (λ (y : Halt). y ≡ w)) adds is) g h
+
 -- ---- a reader in parts
 
 -- two steps, and what is done with what both read
@@ -117,6 +147,10 @@ then_enclosed second close f (Fail k) = refl
 
 abbrev pair : {X Y : Type 0} → X → Y → X × Y
 pair x y = (x, y)
+
+-- the first of a pair in another form
+pub with_second : {X Y : Type 0} {p q : X} (y : Y) → p ≡ q → pair p y ≡ pair q y
+with_second y e = ap (λ x. pair x y) e
 
 -- a test of keys, from its word to its bracket, and what is done with it
 pub then_tested : {X Y A : Type 0} (first : Parser X) (second : Parser Y) (close : Parser One) (f : X → Y → Parser A) (o : Outcome One)

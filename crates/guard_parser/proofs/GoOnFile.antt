@@ -4,7 +4,7 @@ use Rattle.std.proofs.lemmas.Bool.Decides.{nat_tests}
 use Rattle.guard_lexer.specs.declared.token.Mark.TheVariants as m
 use Rattle.guard_syntax.specs.Syntax.{Body, Part, no_lets, more_lets, no_disjs, more_disjs, conds, disj, more_parts, no_parts, refer}
 use Rattle.literal_parser.specs.Lexemes.{Lexeme, Sign, End}
-use Rattle.literal_parser.specs.Forms.{form, is_end, is_name, is_neg, is_note, is_or, is_lbrace, is_rbrace, is_lparen, is_comma, is_let, is_some_word, is_when, is_type_name, is_any_name, is_function_word, is_plain, begins_cond, begins_part, leads, text_of}
+use Rattle.literal_parser.specs.Forms.{form, is_end, is_name, is_neg, is_note, is_or, is_lbrace, is_rbrace, is_lparen, is_comma, is_let, is_some_word, is_any_name, is_function_word, is_plain, begins_cond, begins_part, leads, text_of}
 use Rattle.literal_parser.specs.States.{State, past, opened, start}
 use Rattle.literal_parser.specs.code.Parser.{Outcome, Read, Fail, Parser, and_then, ◌>>=◌, ◌>>◌, pure, stop, opens, takes, choose}
 use Rattle.guard_parser.specs.code.Reading.{BodyItems, FileItems, Inner, is_filled, note, ruled, referred, led_by_name, cond_of, cond_part, ors, disjs, conds_of, tree_expr, expr_of, more_exprs_of, exprs_of, let_of, full_part, disj_of, body_items, body_end, body_of, contents, whole_file, inners}
@@ -13,7 +13,7 @@ use Rattle.literal_parser.proofs.Apart.{apart, implied}
 use Rattle.literal_parser.proofs.Steps.{gives_opens, gives_has, by, by_next}
 use Rattle.literal_parser.proofs.GoOn as go
 use Rattle.literal_parser.specs.Brackets.{open_before, IsShallowTo}
-use Rattle.literal_parser.proofs.Levels.{Sub, Disjoint, stays_level, stands_at, stands_agreed}
+use Rattle.literal_parser.proofs.Levels.{Disjoint, stays_level, stands_at, stands_agreed}
 use Rattle.literal_parser.proofs.GoOn.{any, only, Side, clear, sub_any, sub_same}
 use Rattle.literal_parser.proofs.GoOnSteps as single
 use Rattle.literal_parser.proofs.GoOnSteps.{then, closes_live, up_live, pure_live, opens_live, first_starts}

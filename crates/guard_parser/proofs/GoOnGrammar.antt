@@ -15,8 +15,7 @@ use Rattle.guard_parser.specs.code.Reading.{Inner, bodied, named_bar, capture, n
 use Rattle.guard_parser.proofs.Rooms.{roomy_reads, full_stops}
 use Rattle.literal_parser.proofs.Combine.{gives, gives_then}
 use Rattle.literal_parser.proofs.Apart.{apart, implied, denied}
-use Rattle.literal_parser.proofs.Steps.{gives_opens, gives_has, by_next, by_pair, by_third}
-use Rattle.guard_parser.proofs.CodeSteps.{then_fail}
+use Rattle.literal_parser.proofs.Steps.{gives_opens, gives_has, by_next, by_third}
 use Rattle.literal_parser.proofs.Places.{no_bracket}
 use Rattle.literal_parser.proofs.GoOn as go
 use Rattle.literal_parser.specs.Brackets.{open_before}

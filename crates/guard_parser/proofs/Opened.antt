@@ -1,11 +1,12 @@
 -- How many brackets are open, one token further.
-use Rattle.std.proofs.Common.{◌≡◌, ℕ, suc, ◌+◌, ◌<◌, ◌≤◌, Bool, true, false, refl, ap, sym, ◌∙◌, subst, arith, nat_eq, List, length, get_or}
+use Rattle.std.proofs.Common.{◌≡◌, ℕ, suc, ◌+◌, ◌<◌, ◌≤◌, Bool, true, false, true≢false, refl, ap, sym, ◌∙◌, subst, arith, nat_eq, List, length, get_or}
 use Rattle.std.proofs.lemmas.Bool.Decides.{nat_tests}
 use Rattle.guard_lexer.specs.declared.token.Token.{Token}
 use Rattle.literal_parser.specs.Lexemes.{Lexeme, lexeme_of, lexemes}
 use Rattle.literal_parser.specs.Forms.{form, is_opening}
 use Rattle.literal_parser.specs.Brackets.{open_behind, open_before, IsShallowTo}
-use Rattle.guard_parser.specs.File.{IsTooDeep}
+use Rattle.literal_parser.proofs.Places.{at_end}
+use Rattle.guard_parser.specs.File.{IsShallow, IsTooDeep}
 use Rattle.guard_parser.proofs.Nesting.{bounded}
 use Rattle.guard_parser.proofs.TokenForms.{lexeme_there}
 
@@ -52,3 +53,9 @@ pub one_too_deep : (text : List ℕ) (tokens : List Token) (a b : ℕ) → IsToo
 one_too_deep text tokens a b (i, opening, deep, before, is) (j, others, more, shallow, there) =
     let x = first_is text tokens i j opening deep shallow in let y = first_is text tokens j i others more before in
     let same : i ≡ j = omega arith in is ∙ ap (λ k. (lexemes text tokens k).from) same ∙ sym there
+
+-- a bracket that opens too deep is no one where all brackets open within the limit
+pub not_both : (text : List ℕ) (tokens : List Token) (at : ℕ) → IsShallow text tokens → IsTooDeep text tokens at → ⊥
+not_both text tokens at shallow (i, opening, deep, before, is) =
+    let behind : length tokens ≤ i = first_is text tokens i (length tokens) opening deep shallow in
+    true≢false (sym opening ∙ ap (λ (y : Lexeme). is_opening (form y)) (at_end text tokens i behind))

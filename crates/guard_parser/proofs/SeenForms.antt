@@ -4,13 +4,13 @@ use Rattle.std.specs.Global.{Vec}
 use Rattle.doc_values.specs.Tree.{Forest}
 use Rattle.guard_syntax.specs.Syntax as sx
 use Rattle.guard_syntax.specs.Named.{Named}
-use Rattle.guard_syntax.specs.code.Seen.{see_body, see_conds, see_disj, see_expr, see_opt_conds, see_part, see_query, see_step}
+use Rattle.guard_syntax.specs.code.Seen.{see_body, see_conds, see_disj, see_expr, see_let, see_opt_conds, see_opt_expr, see_part, see_query, see_step}
 use Rattle.guard_syntax.specs.declared.syntax.Body.{Body, roll-Body, the_lemmas}
 use Rattle.guard_syntax.specs.declared.syntax.Conds.{Conds, roll-Conds}
 use Rattle.guard_syntax.specs.declared.syntax.Disj.{Disj, roll-Disj}
 use Rattle.guard_syntax.specs.declared.syntax.Expr.{Expr}
 use Rattle.guard_syntax.specs.declared.syntax.Expr as expr
-use Rattle.guard_syntax.specs.declared.syntax.Let.{Let}
+use Rattle.guard_syntax.specs.declared.syntax.Let.{Let, roll-Let}
 use Rattle.guard_syntax.specs.declared.syntax.Op.{Op}
 use Rattle.guard_syntax.specs.declared.syntax.Part.{Part}
 use Rattle.guard_syntax.specs.declared.syntax.Part as part
@@ -31,6 +31,9 @@ disj-made site parts = search (rules, the_lemmas)
 pub query-made : (site : ℕ) (steps : Vec Step) → see_query (roll-Query (record { site = site; steps = steps })) ≡ sx.query site (see_steps steps)
 query-made site steps = search (rules, the_lemmas)
 
+pub let-made : (site : ℕ) (name : Named) (value : Expr) → see_let (roll-Let (record { site = site; name = name; value = value })) ≡ sx.assign site name (see_expr value)
+let-made site name value = search (rules, the_lemmas)
+
 -- ---- parts
 
 pub block-made : (site : ℕ) (any : Bool) (head : Query) (inner : Body) → see_part (part.Block site any head inner) ≡ sx.block site any (see_query head) (see_body inner)
@@ -41,6 +44,13 @@ guarded-made site cond inner = search (rules, the_lemmas)
 
 pub kinds-made : (site : ℕ) (name : List ℕ) (cond : Option Conds) (inner : Body) → see_part (part.Kinds site name cond inner) ≡ sx.kinds site name (see_opt_conds cond) (see_body inner)
 kinds-made site name cond inner = search (rules, the_lemmas)
+
+pub test-made : (site : ℕ) (any : Bool) (left : Query) (op : Op) (negated : Bool) (right : Option Expr) (message : Option (List ℕ))
+    → see_part (part.Test site any left op negated right message) ≡ sx.test site any (see_query left) op negated (see_opt_expr right) message
+test-made site any left op negated right message = search (rules, the_lemmas)
+
+pub refer-made : (site : ℕ) (negated : Bool) (name : List ℕ) (message : Option (List ℕ)) → see_part (part.Refer site negated name message) ≡ sx.refer site negated name message
+refer-made site negated name message = search (rules, the_lemmas)
 
 pub call-made : (site : ℕ) (negated : Bool) (name : List ℕ) (args : Vec Expr) (message : Option (List ℕ)) → see_part (part.Call site negated name args message) ≡ sx.call site negated name (see_exprs args) message
 call-made site negated name args message = search (rules, the_lemmas)
@@ -56,7 +66,19 @@ function-made site name args = search (rules, the_lemmas)
 pub asked-made : (asks : Query) → see_expr (expr.Query asks) ≡ sx.asked (see_query asks)
 asked-made asks = search (rules, the_lemmas)
 
+pub found-made : (site : ℕ) (asks : Query) → see_expr (expr.Found site asks) ≡ sx.found site (see_query asks)
+found-made site asks = search (rules, the_lemmas)
+
 -- ---- steps
+
+pub this-made : (site : ℕ) → see_step (roll-Step (record { site = site; form = form.This })) ≡ sx.this site
+this-made site = search (rules, the_lemmas)
+
+pub var-made : (site : ℕ) (name : List ℕ) → see_step (roll-Step (record { site = site; form = form.Var name })) ≡ sx.var site name
+var-made site name = search (rules, the_lemmas)
+
+pub items-made : (site : ℕ) → see_step (roll-Step (record { site = site; form = form.Items })) ≡ sx.items site
+items-made site = search (rules, the_lemmas)
 
 pub every-made : (site : ℕ) → see_step (roll-Step (record { site = site; form = form.Every })) ≡ sx.every site
 every-made site = search (rules, the_lemmas)

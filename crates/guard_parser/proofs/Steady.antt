@@ -1,7 +1,7 @@
 -- What is read does not depend on the number of turns that a list may take, where it is above that of the lexemes, nor on how sites are numbered, where
 -- that is by how many there are before: each rule of the grammar. At a lexeme begin at most five sites, as at a condition: `conds`, `disj`, `part`,
 -- `query` and its first step.
-use Rattle.std.proofs.Common.{◌≡◌, refl, sym, ℕ, zero, suc, ◌+◌, ◌<◌, ◌≤◌, max, Bool, true, false, cond, true≢false, arith, List, Option}
+use Rattle.std.proofs.Common.{◌≡◌, refl, sym, ℕ, zero, suc, ◌+◌, ◌<◌, ◌≤◌, Bool, true, false, cond, true≢false, arith, List, Option}
 use Rattle.guard_syntax.specs.Named.{Named}
 use Rattle.guard_syntax.specs.declared.syntax.Op.{Op}
 use Rattle.guard_syntax.specs.Syntax.{Part, Query}

@@ -1,4 +1,5 @@
 -- What serves the code and its proofs alone: nobody has to believe it.
+pub mod Adding
 pub mod Depth
 pub mod FileReads
 pub mod GrammarReads

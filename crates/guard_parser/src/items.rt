@@ -1,5 +1,5 @@
 //! What stands among each other in a file, or in a body.
-ghost use Rattle.std.specs.Prelude.{◌≡◌, ◌++◌, ◌∷◌, [], IfErr, OnOk};
+ghost use Rattle.guard_parser.specs.code.Adding.{Adds};
 
 use guard_syntax::{Disj, Let, Rule};
 use literal_parser::Halt;
@@ -23,11 +23,12 @@ pub(crate) struct BodyItems {
 /// a list of very many would leave up to half of its room empty if it doubled.
 const SHARE: usize = 8;
 
-/// Adds an item behind those that were found before.
-pub(crate) fn add<T: Drop>(found: &mut Vec<T>, item: T) -> Result<(), Halt>
-    ensures added { OnOk result (found.new.items ≡ found.old.items ++ (item ∷ [])) }
-    ensures refused { IfErr result (λ e. e ≡ Halt.NoMemory) }
+/// Adds an item that was read behind those that were found before. Where none was read, it says why.
+#[tactic(auto, unfolding(crate::specs::code::Adding::Adds))]
+pub(crate) fn add<T: Drop>(found: &mut Vec<T>, read: Result<T, Halt>) -> Result<(), Halt>
+    ensures { Adds read found.old.items found.new.items result }
 {
+    let item = read?;
     let count = found.len();
     if count == found.capacity() {
         found.reserve_exact(1 + count / SHARE)?;

@@ -78,7 +78,7 @@ fn add_items(
 {
     for _turn in 0..tokens.turns {
         if cursor.sees(tokens, TokenTest::Let) {
-            add(&mut found.lets, let_of(alloc, tokens, cursor, depth)?)?;
+            add(&mut found.lets, let_of(alloc, tokens, cursor, depth))?;
             continue;
         }
         if !cursor.sees(tokens, TokenTest::Part) {
@@ -87,7 +87,7 @@ fn add_items(
             }
             return cursor.takes(tokens, TokenTest::RBrace);
         }
-        add(&mut found.parts, disj(alloc, tokens, cursor, depth)?)?;
+        add(&mut found.parts, disj(alloc, tokens, cursor, depth))?;
     }
     Err(Halt::Dead(cursor.seen))
 }
@@ -124,13 +124,13 @@ fn add_parts(
     requires none { found.old.items ≡ [] }
     ensures { Reads (λ _. see_parts found.new) (some_parts_at tokens.entry depth (state_of cursor.old) cursor.old.seen) result cursor.new }
 {
-    add(found, part(alloc, tokens, cursor, depth)?)?;
+    add(found, part(alloc, tokens, cursor, depth))?;
     for _turn in 0..tokens.turns {
         if !cursor.sees(tokens, TokenTest::Or) {
             return Ok(());
         }
         cursor.takes(tokens, TokenTest::Or)?;
-        add(found, part(alloc, tokens, cursor, depth)?)?;
+        add(found, part(alloc, tokens, cursor, depth))?;
     }
     Err(Halt::Dead(cursor.seen))
 }

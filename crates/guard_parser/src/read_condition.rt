@@ -81,12 +81,12 @@ fn add_disjs(
     requires none { found.old.items ≡ [] }
     ensures { Reads (λ _. see_disjs found.new) (some_disjs_at tokens.entry depth (state_of cursor.old) cursor.old.seen) result cursor.new }
 {
-    add(found, alternatives(alloc, tokens, cursor, depth)?)?;
+    add(found, alternatives(alloc, tokens, cursor, depth))?;
     for _turn in 0..tokens.turns {
         if !cursor.sees(tokens, TokenTest::Cond) {
             return Ok(());
         }
-        add(found, alternatives(alloc, tokens, cursor, depth)?)?;
+        add(found, alternatives(alloc, tokens, cursor, depth))?;
     }
     Err(Halt::Dead(cursor.seen))
 }
@@ -123,13 +123,13 @@ fn add_conditions(
     requires none { found.old.items ≡ [] }
     ensures { Reads (λ _. see_parts found.new) (some_conditions_at tokens.entry depth (state_of cursor.old) cursor.old.seen) result cursor.new }
 {
-    add(found, condition(alloc, tokens, cursor, depth)?)?;
+    add(found, condition(alloc, tokens, cursor, depth))?;
     for _turn in 0..tokens.turns {
         if !cursor.sees(tokens, TokenTest::Or) {
             return Ok(());
         }
         cursor.takes(tokens, TokenTest::Or)?;
-        add(found, condition(alloc, tokens, cursor, depth)?)?;
+        add(found, condition(alloc, tokens, cursor, depth))?;
     }
     Err(Halt::Dead(cursor.seen))
 }

@@ -33,13 +33,13 @@ fn add_names(
     requires none { found.old.items ≡ [] }
     ensures { Reads (λ _. found.new.items) (closed_names_at tokens.entry (state_of cursor.old) cursor.old.seen) result cursor.new }
 {
-    add(found, cursor.has_name(alloc, tokens, TokenTest::Name)?)?;
+    add(found, cursor.has_name(alloc, tokens, TokenTest::Name))?;
     for _turn in 0..tokens.turns {
         if !cursor.sees(tokens, TokenTest::Comma) {
             return cursor.takes(tokens, TokenTest::RParen);
         }
         cursor.takes(tokens, TokenTest::Comma)?;
-        add(found, cursor.has_name(alloc, tokens, TokenTest::Name)?)?;
+        add(found, cursor.has_name(alloc, tokens, TokenTest::Name))?;
     }
     Err(Halt::Dead(cursor.seen))
 }
@@ -100,17 +100,17 @@ fn add_items(
 {
     for _turn in 0..tokens.turns {
         if cursor.sees(tokens, TokenTest::Let) {
-            add(&mut found.lets, let_of(alloc, tokens, cursor, depth)?)?;
+            add(&mut found.lets, let_of(alloc, tokens, cursor, depth))?;
             continue;
         }
         if cursor.sees(tokens, TokenTest::Rule) {
-            add(&mut found.rules, rule(alloc, tokens, cursor, depth)?)?;
+            add(&mut found.rules, rule(alloc, tokens, cursor, depth))?;
             continue;
         }
         if !cursor.sees(tokens, TokenTest::Part) {
             return Ok(());
         }
-        add(&mut found.loose, disj(alloc, tokens, cursor, depth)?)?;
+        add(&mut found.loose, disj(alloc, tokens, cursor, depth))?;
     }
     Err(Halt::Dead(cursor.seen))
 }

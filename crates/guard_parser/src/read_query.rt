@@ -67,12 +67,12 @@ fn add_steps(
     requires none { found.old.items ≡ [] }
     ensures { Reads (λ _. see_steps found.new) (some_steps_at tokens.entry depth (state_of cursor.old) cursor.old.seen) result cursor.new }
 {
-    add(found, start_step(alloc, tokens, cursor)?)?;
+    add(found, start_step(alloc, tokens, cursor))?;
     for _turn in 0..tokens.turns {
         if !cursor.sees(tokens, TokenTest::Step) {
             return Ok(());
         }
-        add(found, step(alloc, tokens, cursor, depth)?)?;
+        add(found, step(alloc, tokens, cursor, depth))?;
     }
     Err(Halt::Dead(cursor.seen))
 }
@@ -232,13 +232,13 @@ fn add_exprs(
     requires none { found.old.items ≡ [] }
     ensures { Reads (λ _. see_exprs found.new) (closed_exprs_at tokens.entry depth (state_of cursor.old) cursor.old.seen) result cursor.new }
 {
-    add(found, expr(alloc, tokens, cursor, depth)?)?;
+    add(found, expr(alloc, tokens, cursor, depth))?;
     for _turn in 0..tokens.turns {
         if !cursor.sees(tokens, TokenTest::Comma) {
             return cursor.takes(tokens, TokenTest::RParen);
         }
         cursor.takes(tokens, TokenTest::Comma)?;
-        add(found, expr(alloc, tokens, cursor, depth)?)?;
+        add(found, expr(alloc, tokens, cursor, depth))?;
     }
     Err(Halt::Dead(cursor.seen))
 }

@@ -2,7 +2,7 @@
 use thiserror::Error;
 
 /// Why tokens spell no rule file, with a byte offset in its text.
-#[derive(Clone, Copy, Debug, PartialEq, Eq, Error)]
+#[derive(Clone, Copy, Debug, Error)]
 pub enum ParseRefusal {
     /// A bracket opens while 128 are open: the first such bracket.
     #[error("a bracket inside 128 others")]

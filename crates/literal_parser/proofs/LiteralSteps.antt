@@ -118,6 +118,13 @@ halted_put put inner o step (Err NoMemory) e u v c d is f h = tt
 halted_put put inner o step (Err (Dead k)) NoMemory u v c d is f h = absurd cc
 halted_put put inner o step (Err (Dead k)) (Dead j) u v c d is f h = let same : j ≡ k = cc in f j h ∙ ap (λ n. Fail n) same
 
+pub halted_whole : {A B X : Type 0} (see : X → A) (inner : B → Unfinished) (o : Outcome A) (step : Outcome B) (r : Result X Halt) (e : Halt) (v : Unfinished) (c d : Cursor)
+    → IsErrAnd r (λ (y : Halt). y ≡ e) → ((k : ℕ) → step ≡ Fail k → o ≡ Fail k) → Puts {X = One} inner step (Err e) v d → Reads see o r c
+halted_whole see inner o step (Ok x) e v c d is f h = absurd is
+halted_whole see inner o step (Err NoMemory) e v c d is f h = tt
+halted_whole see inner o step (Err (Dead k)) NoMemory v c d is f h = absurd cc
+halted_whole see inner o step (Err (Dead k)) (Dead j) v c d is f h = let same : j ≡ k = cc in f j h ∙ ap (λ n. Fail n) same
+
 -- ---- a value of one lexeme, and a range
 
 pub put_scalar : (u v : Unfinished) (k : Kind) (text : List ℕ) (at : ℕ) (x : Lexeme) → v ≡ with_value k text at u → k ≡ scalar_kind x.word → text ≡ scalar_text x.word → at ≡ x.from
@@ -326,6 +333,23 @@ module _ (s : ℕ → Lexeme) (turns : ℕ) (room : Bool) (p q : Parser Forest) 
       e ∙ ap (λ k. behind found (more_items s turns room p q k st seen)) (one_less n i below)
       ∙ ap (behind found) (saw s is_comma _ _ st seen sees is here far refl) ∙ ap (λ f. Read f st1 seen1) (joined-Nil found)
 
+  -- behind an item stands a comma that is not taken, or no item behind it
+  pub items_untaken : (n i : ℕ) (found : Forest) (v : Bool) (total : Outcome Forest) (st st1 : State) (seen seen1 k : ℕ) → i < n
+      → total ≡ behind found (more_items s turns room p q (n - i) st seen) → v ≡ is_comma (form (s st.at)) → v ≡ true → st1 ≡ st → seen1 ≡ max seen st.at
+      → takes s is_comma st1 seen1 ≡ Fail k → total ≡ Fail k
+  unfolding more_items
+  items_untaken n i found v total st st1 seen seen1 k below e sees is here far taking =
+      e ∙ ap (λ m. behind found (more_items s turns room p q m st seen)) (one_less n i below)
+      ∙ ap (behind found) (saw s is_comma _ _ st seen sees is here far (then_fail _ taking))
+
+  pub items_unread : (n i : ℕ) (found : Forest) (name : Option (List ℕ)) (v : Bool) (total : Outcome Forest) (st st1 st2 : State) (seen seen1 seen2 k : ℕ) → i < n
+      → total ≡ behind found (more_items s turns room p q (n - i) st seen) → v ≡ is_comma (form (s st.at)) → v ≡ true → st1 ≡ st → seen1 ≡ max seen st.at
+      → takes s is_comma st1 seen1 ≡ Read tt st2 seen2 → name ≡ None → node s turns room p q name st2 seen2 ≡ Fail k → total ≡ Fail k
+  unfolding more_items
+  items_unread n i found name v total st st1 st2 seen seen1 seen2 k below e sees is here far taking none failed =
+      e ∙ ap (λ m. behind found (more_items s turns room p q m st seen)) (one_less n i below)
+      ∙ ap (behind found) (saw s is_comma _ _ st seen sees is here far (then_read _ taking (then_fail _ (ap (λ y. node s turns room p q y st2 seen2) (sym none) ∙ failed))))
+
   pub items_first : (name : Option (List ℕ)) (x : Tree) (rest : Forest) (v : Bool) (st st1 st2 st3 : State) (seen seen1 seen2 seen3 : ℕ) → v ≡ is_rbracket (form (s st.at)) → v ≡ false → st1 ≡ st → seen1 ≡ max seen st.at
       → name ≡ None → node s turns room p q name st1 seen1 ≡ Read x st2 seen2 → more_items s turns room p q turns st2 seen2 ≡ Read rest st3 seen3
       → items_of s turns room p q st seen ≡ Read (Node x.0 x.1 rest) st3 seen3
@@ -351,6 +375,23 @@ module _ (s : ℕ → Lexeme) (turns : ℕ) (room : Bool) (p q : Parser Forest) 
   entries_end n i found before v total st st1 seen seen1 below e sees is here far =
       e ∙ ap (λ k. behind found (more_entries s turns room p q k before st seen)) (one_less n i below)
       ∙ ap (behind found) (saw s is_comma _ _ st seen sees is here far refl) ∙ ap (λ f. Read f st1 seen1) (joined-Nil found)
+
+  -- behind an entry stands a comma that is not taken, or no entry behind it
+  pub entries_untaken : (n i : ℕ) (found before : Forest) (v : Bool) (total : Outcome Forest) (st st1 : State) (seen seen1 k : ℕ) → i < n
+      → total ≡ behind found (more_entries s turns room p q (n - i) before st seen) → v ≡ is_comma (form (s st.at)) → v ≡ true → st1 ≡ st → seen1 ≡ max seen st.at
+      → takes s is_comma st1 seen1 ≡ Fail k → total ≡ Fail k
+  unfolding more_entries
+  entries_untaken n i found before v total st st1 seen seen1 k below e sees is here far taking =
+      e ∙ ap (λ m. behind found (more_entries s turns room p q m before st seen)) (one_less n i below)
+      ∙ ap (behind found) (saw s is_comma _ _ st seen sees is here far (then_fail _ taking))
+
+  pub entries_unread : (n i : ℕ) (found before : Forest) (v : Bool) (total : Outcome Forest) (st st1 st2 : State) (seen seen1 seen2 k : ℕ) → i < n
+      → total ≡ behind found (more_entries s turns room p q (n - i) before st seen) → v ≡ is_comma (form (s st.at)) → v ≡ true → st1 ≡ st → seen1 ≡ max seen st.at
+      → takes s is_comma st1 seen1 ≡ Read tt st2 seen2 → entry s turns room p q before st2 seen2 ≡ Fail k → total ≡ Fail k
+  unfolding more_entries
+  entries_unread n i found before v total st st1 st2 seen seen1 seen2 k below e sees is here far taking failed =
+      e ∙ ap (λ m. behind found (more_entries s turns room p q m before st seen)) (one_less n i below)
+      ∙ ap (behind found) (saw s is_comma _ _ st seen sees is here far (then_read _ taking (then_fail _ failed)))
 
   pub entries_first : (before after : Forest) (x : Tree) (rest : Forest) (v : Bool) (st st1 st2 st3 : State) (seen seen1 seen2 seen3 : ℕ) → v ≡ is_rbrace (form (s st.at)) → v ≡ false → st1 ≡ st → seen1 ≡ max seen st.at
       → before ≡ Nil → entry s turns room p q before st1 seen1 ≡ Read x st2 seen2 → after ≡ snoc before x.0 x.1 → more_entries s turns room p q turns after st2 seen2 ≡ Read rest st3 seen3
@@ -393,6 +434,15 @@ may_end map u h = (some_open map u.outer h.0, h.1)
 -- the same collections are open
 pub level_open : (map : Bool) (u v : Unfinished) → IsOpen map u → IsLevel u v → IsOpen map v
 level_open map u v h e = (ap innermost e.0 ∙ h.0, e.1)
+
+pub level_with : (u v : Unfinished) (x : Tree) → v ≡ with_tree u x → IsLevel u v
+level_with u v x e = (ap (λ (w : Unfinished). w.outer) e, ap (λ (w : Unfinished). w.key) e)
+
+pub level_further : (u v w : Unfinished) → IsLevel u v → IsLevel v w → IsLevel u w
+level_further u v w e f = (f.0 ∙ e.0, f.1)
+
+pub level_keyed : (u v w : Unfinished) (text : List ℕ) → v ≡ with_key text u → IsLevel v w → IsLevel u w
+level_keyed u v w text e f = (f.0 ∙ ap (λ (x : Unfinished). x.outer) e, f.1)
 
 -- ---- the whole
 

@@ -1,12 +1,12 @@
 -- Over lexemes that end, what is read does not depend on the number of turns that a list may take, where it is above that of the lexemes, nor on how
 -- sites are numbered, where that is by how many there are before as far as there can be: how that holds of a reader's parts and so of the reader.
-use Rattle.std.proofs.Common.{◌≡◌, ℕ, suc, ◌≤◌, ◌<◌, ◌+◌, ◌*◌, max, Bool, true, false, cond, ◌&&◌, ◌||◌, refl, sym, ap, ◌∙◌, arith, length, List, [], ◌∷◌, ◌++◌}
+use Rattle.std.proofs.Common.{◌≡◌, ℕ, suc, ◌≤◌, ◌+◌, ◌*◌, max, Bool, true, false, cond, ◌&&◌, ◌||◌, refl, ap, ◌∙◌, arith, length, [], ◌∷◌}
 use Rattle.std.proofs.lemmas.List.{length-append}
 use Rattle.literal_parser.specs.Lexemes.{Lexeme}
 use Rattle.literal_parser.specs.Forms.{form}
-use Rattle.literal_parser.specs.States.{State, past, opened, ranged}
-use Rattle.literal_parser.specs.code.Parser.{Outcome, Read, Fail, Parser, One, and_then, note_range, opens, takes, has, choose, choose_pair, choose_next, choose_third}
-use Rattle.literal_parser.proofs.GoOn.{Passes, passes_both, passes_first, passes_second, passes_at_least}
+use Rattle.literal_parser.specs.States.{State, past, opened}
+use Rattle.literal_parser.specs.code.Parser.{Outcome, Read, Fail, Parser, and_then, note_range, opens, takes, has, choose, choose_pair, choose_next, choose_third}
+use Rattle.literal_parser.proofs.GoOn.{Passes, passes_both, passes_first, passes_second}
 use Rattle.literal_parser.proofs.GoOnSteps.{inside}
 
 -- so many more sites may begin here, where five do at most at each lexeme, and one more in all

@@ -19,7 +19,7 @@ use std::alloc::{AllocError, AllocFailed, Global};
 const LAST_SITE: usize = u32::MAX as usize;
 
 /// Why reading goes no further.
-#[derive(Clone, Copy, Debug, PartialEq, Eq)]
+#[derive(Clone, Copy)]
 pub enum Halt {
     /// Nothing goes on with the tokens up to this one, the furthest that was looked at, and with it.
     Dead(usize),

@@ -1,7 +1,7 @@
 //! The words that are no names.
 
 /// A keyword, in whichever of its letter cases it is written.
-#[derive(Clone, Copy, Debug, PartialEq, Eq)]
+#[derive(Clone, Copy)]
 pub enum Keyword {
     Let,
     Rule,

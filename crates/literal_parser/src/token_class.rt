@@ -7,7 +7,7 @@ use crate::keyword::Keyword;
 use guard_lexer::Mark;
 
 /// What a token is to the grammar, whatever its text.
-#[derive(Clone, Copy, Debug, PartialEq, Eq)]
+#[derive(Clone, Copy)]
 pub enum TokenClass {
     /// No token: the end of the text.
     End,
@@ -32,7 +32,7 @@ pub enum TokenClass {
 }
 
 /// What the grammar asks of a token.
-#[derive(Clone, Copy, Debug, PartialEq, Eq)]
+#[derive(Clone, Copy)]
 pub enum TokenTest {
     /// A name of a variable, parameter or capture.
     Name,

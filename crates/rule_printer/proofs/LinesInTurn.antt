@@ -123,6 +123,21 @@ rules-left-end ls rs i n old new start past so added =
 
 -- ---- files
 
+pub loose-next : (ls : List Let) (rs : List Rule) (ds : List Disj) (i n p m q : ℕ) (x : Disj) (old middle new start : List ℕ) → i < length ds → x ≡ get_or ds i x
+    → old ++ in_a_row (merged (lets_from [] ls n) (merged (rules_from rs p) (disjs_from [] ds i))) ≡ start
+    → ((text : List ℕ) (others : Lines) → middle ++ in_a_row ((x.site, text) ∷ merged (lets_from [] ls m) (merged (rules_from rs q) others))
+    ≡ old ++ in_a_row (merged (lets_from [] ls n) (merged (rules_from rs p) ((x.site, text) ∷ others))))
+    → new ≡ middle ++ (disj_line [] (see_disj x)).1 → new ++ in_a_row (merged (lets_from [] ls m) (merged (rules_from rs q) (disjs_from [] ds (i + 1)))) ≡ start
+loose-next ls rs ds i n p m q x old middle new start within is so before added =
+    let text = (disj_line [] (see_disj x)).1 in
+    let others = disjs_from [] ds (i + 1) in
+    let rest = in_a_row (merged (lets_from [] ls m) (merged (rules_from rs q) others)) in
+    ap (λ (l : List ℕ). l ++ rest) added
+    ∙ append_assoc middle text rest
+    ∙ before text others
+    ∙ ap (λ (l : Lines). old ++ in_a_row (merged (lets_from [] ls n) (merged (rules_from rs p) l))) (sym (disjs-next [] ds i x within is))
+    ∙ so
+
 pub loose-end : (ls : List Let) (rs : List Rule) (ds : List Disj) (i n p : ℕ) (old new start : List ℕ) → length ds ≤ i
     → old ++ in_a_row (merged (lets_from [] ls n) (merged (rules_from rs p) (disjs_from [] ds i))) ≡ start
     → new ≡ old ++ in_a_row (merged (lets_from [] ls n) (rules_from rs p)) → new ≡ start

@@ -3,7 +3,7 @@ use Rattle.std.proofs.Common.{◌≡◌, ℕ, suc, Bool, true, false, List, [], 
 use Rattle.std.proofs.lemmas.Bool.Decides.{nat_tests}
 use Rattle.std.proofs.lemmas.Result.{on_ok_weaker}
 use Rattle.std.proofs.lemmas.List.{drop_more}
-use Rattle.std.specs.Prelude.{Result, Ok, Err, OnOk, is_ok}
+use Rattle.std.specs.Prelude.{Result, Ok, Err, OnOk, is_ok, decimal}
 use Rattle.std.specs.declared.vec.Vec.{Vec}
 use Rattle.std.specs.declared.alloc.Global.{Global}
 use Rattle.guard_syntax.specs.Named.{Named}
@@ -28,6 +28,9 @@ use Rattle.rule_printer.specs.code.Printing.{space_in, step_in}
 use Rattle.rule_printer.proofs.BlockTexts.{of_body_parts}
 use Rattle.rule_printer.proofs.PartTexts.{of_exprs, of_steps, refer_seen, test_seen, two}
 
+asked_seen : (q : Query) → see_expr (expr.Query q) ≡ sx.asked (see_query q)
+asked_seen q = search (rules, the_lemmas)
+
 found_seen : (site : ℕ) (q : Query) → see_expr (expr.Found site q) ≡ sx.found site (see_query q)
 found_seen site q = search (rules, the_lemmas)
 
@@ -35,6 +38,22 @@ found_seen site q = search (rules, the_lemmas)
 
 form_text : (first : Bool) (s : Step) (f : StepForm) (y : ℕ → sx.Step) → s.form ≡ f → see_form f ≡ y → step_in first (see_step s) ≡ step_in first (y s.site)
 form_text first s f y is seen = ap (step_in first) (step-seen s ∙ ap (λ (g : StepForm). see_form g s.site) is ∙ ap (λ (z : ℕ → sx.Step). z s.site) seen)
+
+this_text : (first : Bool) (n : ℕ) → step_in first (sx.this n) ≡ codes "this"
+this_text true n = refl
+this_text false n = refl
+
+every_text : (first : Bool) (n : ℕ) → step_in first (sx.every n) ≡ codes ".*"
+every_text true n = refl
+every_text false n = refl
+
+all_items_text : (first : Bool) (n : ℕ) → step_in first (sx.items n) ≡ codes "[*]"
+all_items_text true n = refl
+all_items_text false n = refl
+
+index_text : (first : Bool) (i n : ℕ) → step_in first (sx.index n i) ≡ codes "." ++ decimal i
+index_text true i n = refl
+index_text false i n = refl
 
 var_text : (first : Bool) (n : ℕ) (name : List ℕ) → step_in first (sx.var n name) ≡ codes "%" ++ name
 var_text true n name = refl
@@ -89,6 +108,31 @@ module _ {T E : Type 0} (r : Result T E) where
 
   shown : (a b x y : List ℕ) → y ≡ x → OnOk r (b ≡ a ++ x) → OnOk r (b ≡ a ++ y)
   shown a b x y e = on_ok_weaker r (λ (p : b ≡ a ++ x). p ∙ ap (λ (l : List ℕ). a ++ l) (sym e))
+
+  -- what a call appends, behind what is known in another form
+  pub appended_to : (a b c x : List ℕ) → b ≡ a → OnOk r (c ≡ b ++ x) → OnOk r (c ≡ a ++ x)
+  appended_to a b c x e = on_ok_weaker r (λ (p : c ≡ b ++ x). p ∙ ap (λ (l : List ℕ). l ++ x) e)
+
+  -- a step of one text
+  worded : (first : Bool) (s : Step) (f : StepForm) (y : ℕ → sx.Step) (x a b : List ℕ) → s.form ≡ f → see_form f ≡ y → ((n : ℕ) → step_in first (y n) ≡ x) → OnOk r (b ≡ a ++ x)
+      → OnOk r (b ≡ a ++ step_in first (see_step s))
+  worded first s f y x a b is seen text h = shown a b x _ (form_text first s f y is seen ∙ text s.site) h
+
+  pub this-added : (first : Bool) (s : Step) (a b : List ℕ) → s.form ≡ form.This → OnOk r (b ≡ a ++ codes "this") → OnOk r (b ≡ a ++ step_in first (see_step s))
+  this-added first s a b is h = worded first s form.This (λ i. sx.this i) (codes "this") a b is (search (rules, the_lemmas)) (this_text first) h
+
+  pub every-added : (first : Bool) (s : Step) (a b : List ℕ) → s.form ≡ form.Every → OnOk r (b ≡ a ++ codes ".*") → OnOk r (b ≡ a ++ step_in first (see_step s))
+  every-added first s a b is h = worded first s form.Every (λ i. sx.every i) (codes ".*") a b is (search (rules, the_lemmas)) (every_text first) h
+
+  pub items-added : (first : Bool) (s : Step) (a b : List ℕ) → s.form ≡ form.Items → OnOk r (b ≡ a ++ codes "[*]") → OnOk r (b ≡ a ++ step_in first (see_step s))
+  items-added first s a b is h = worded first s form.Items (λ i. sx.items i) (codes "[*]") a b is (search (rules, the_lemmas)) (all_items_text first) h
+
+  pub index-added : (first : Bool) (s : Step) (n : ℕ) (a b : List ℕ) → s.form ≡ form.Index n → OnOk r (b ≡ a ++ (codes "." ++ decimal n)) → OnOk r (b ≡ a ++ step_in first (see_step s))
+  index-added first s n a b is h = worded first s (form.Index n) (λ i. sx.index i n) (codes "." ++ decimal n) a b is (search (rules, the_lemmas)) (index_text first n) h
+
+  pub key-added : (first : Bool) (s : Step) (name n : List ℕ) (a b : List ℕ) → s.form ≡ form.Key name → n ≡ name → ((i : ℕ) → OnOk r (b ≡ a ++ step_in first (sx.key i n))) → OnOk r (b ≡ a ++ step_in first (see_step s))
+  key-added first s name n a b is named h =
+      shown a b (step_in first (sx.key s.site n)) _ (form_text first s (form.Key name) (λ i. sx.key i name) is (search (rules, the_lemmas)) ∙ ap (λ (l : List ℕ). step_in first (sx.key s.site l)) (sym named)) (h s.site)
 
   pub var-added : (first : Bool) (s : Step) (name n : List ℕ) (a b c : List ℕ) → s.form ≡ form.Var name → n ≡ name → b ≡ a ++ codes "%" → OnOk r (c ≡ b ++ n) → OnOk r (c ≡ a ++ step_in first (see_step s))
   var-added first s name n a b c is named h k =
@@ -153,6 +197,9 @@ module _ {T E : Type 0} (r : Result T E) where
   function-added x site name n m args es a b c d e f is named again are h1 h2 h3 h4 h5 =
       shown a f _ _ (ap (λ (y : sx.Expr). expr_text y) (ap see_expr is ∙ function-seen site name args))
       (behind a b f _ _ (h1 ∙ ap (λ l. a ++ l) named) (behind b c f _ _ (h2 ∙ ap (λ l. b ++ space_behind l) again) (behind c d f _ _ h3 (behind d e f _ _ (h4 ∙ ap (λ (l : List Expr). d ++ of_exprs l) are) h5))))
+
+  pub query-asked-added : (x : Expr) (q : Query) (a b : List ℕ) → x ≡ expr.Query q → OnOk r (b ≡ a ++ asked_text (see_query q)) → OnOk r (b ≡ a ++ expr_text (see_expr x))
+  query-asked-added x q a b is h = shown a b (asked_text (see_query q)) _ (ap (λ (y : sx.Expr). expr_text y) (ap see_expr is ∙ asked_seen q)) h
 
   pub found-added : (x : Expr) (site : ℕ) (q : Query) (a b c : List ℕ) → x ≡ expr.Found site q → b ≡ a ++ codes "some " → OnOk r (c ≡ b ++ query_text (see_query q)) → OnOk r (c ≡ a ++ expr_text (see_expr x))
   found-added x site q a b c is h k = shown a c _ _ (ap (λ (y : sx.Expr). expr_text y) (ap see_expr is ∙ found_seen site q)) (behind a b c _ _ h k)

@@ -1,13 +1,15 @@
 //! Conditions, queries and expressions. They lead back to themselves through brackets alone.
-ghost use Rattle.std.specs.Prelude.{◌≡◌, ◌++◌, OnOk, drop, map, string_bytes};
+ghost use Rattle.std.specs.Prelude.{◌≡◌, ◌++◌, OnOk, codes, drop, map, string_bytes};
 ghost use Rattle.guard_syntax.specs.code.Seen.{expr_list, part_list, see_conds, see_expr, see_opt_expr, see_part, see_query, see_step, step_list};
 ghost use Rattle.rule_printer.specs.RuleText.{alternatives_text, asked_text, cond_text, conds_text, expr_text, exprs_text, opt_expr_text, query_text, steps_text};
 ghost use Rattle.rule_printer.specs.code.Printing.{step_in};
 
 use crate::literals::push_literal;
-use crate::names::{push_capture, push_key, push_space_behind};
+use crate::names::{push_function_name, push_key, push_keys_test, push_opened, push_signed};
 use crate::starts::push_space_within;
-use crate::words::{push_between, push_index, push_note, push_operator, push_word_if};
+use crate::words::{
+    push_between, push_index, push_note, push_rule_name, push_spaced_operator, push_word_if,
+};
 use guard_syntax::{Conds, Expr, Part, Query, Step, StepForm};
 use std::alloc::AllocError;
 
@@ -53,8 +55,7 @@ pub(crate) fn push_cond(out: &mut String, part: &Part) -> Result<(), AllocError>
         } => {
             push_word_if(out, *any, "some ")?;
             push_query(out, left)?;
-            out.push_str(" ")?;
-            push_operator(out, *op, *not)?;
+            push_spaced_operator(out, *op, *not)?;
             push_right(out, right)?;
             push_note(out, note)
         }
@@ -64,8 +65,7 @@ pub(crate) fn push_cond(out: &mut String, part: &Part) -> Result<(), AllocError>
             note,
             ..
         } => {
-            push_word_if(out, *not, "not ")?;
-            out.push_str(name.as_str())?;
+            push_rule_name(out, *not, name.as_str())?;
             push_note(out, note)
         }
         Part::Call {
@@ -75,11 +75,8 @@ pub(crate) fn push_cond(out: &mut String, part: &Part) -> Result<(), AllocError>
             note,
             ..
         } => {
-            push_word_if(out, *not, "not ")?;
-            out.push_str(name.as_str())?;
-            out.push_str("(")?;
-            push_exprs(out, args)?;
-            out.push_str(")")?;
+            push_rule_name(out, *not, name.as_str())?;
+            push_arguments(out, args)?;
             push_note(out, note)
         }
         Part::Block { .. } | Part::When { .. } | Part::Kinds { .. } => Ok(()),
@@ -145,21 +142,14 @@ fn push_step(out: &mut String, first: bool, step: &Step) -> Result<(), AllocErro
 {
     match &step.form {
         StepForm::This => out.push_str("this"),
-        StepForm::Var(name) => {
-            out.push_str("%")?;
-            out.push_str(name.as_str())
-        }
+        StepForm::Var(name) => push_signed(out, "%", name.as_str()),
         StepForm::Key(name) => push_key(out, first, name.as_str()),
         StepForm::Index(index) => push_index(out, *index),
         StepForm::Every => out.push_str(".*"),
         StepForm::Items => out.push_str("[*]"),
-        StepForm::Splice(name) => {
-            out.push_str(".%")?;
-            out.push_str(name.as_str())
-        }
+        StepForm::Splice(name) => push_signed(out, ".%", name.as_str()),
         StepForm::Filter(capture, conds) => {
-            out.push_str("[ ")?;
-            push_capture(out, capture)?;
+            push_opened(out, capture)?;
             push_conds(out, conds)?;
             out.push_str(" ]")
         }
@@ -169,11 +159,7 @@ fn push_step(out: &mut String, first: bool, step: &Step) -> Result<(), AllocErro
             not,
             right,
         } => {
-            out.push_str("[ ")?;
-            push_capture(out, capture)?;
-            out.push_str("keys ")?;
-            push_operator(out, *op, *not)?;
-            out.push_str(" ")?;
+            push_keys_test(out, capture, *op, *not)?;
             push_expr(out, right)?;
             out.push_str(" ]")
         }
@@ -188,11 +174,8 @@ pub(crate) fn push_expr(out: &mut String, expr: &Expr) -> Result<(), AllocError>
     match expr {
         Expr::Literal { tree, .. } => push_literal(out, tree),
         Expr::Function { name, args, .. } => {
-            out.push_str(name.as_str())?;
-            push_space_behind(out, name.as_str())?;
-            out.push_str("(")?;
-            push_exprs(out, args)?;
-            out.push_str(")")
+            push_function_name(out, name.as_str())?;
+            push_arguments(out, args)
         }
         Expr::Query(query) => push_asked(out, query),
         Expr::Found { query, .. } => {
@@ -202,14 +185,15 @@ pub(crate) fn push_expr(out: &mut String, expr: &Expr) -> Result<(), AllocError>
     }
 }
 
-/// Appends arguments.
+/// Appends arguments, in their parentheses.
 #[cycle(conditions)]
-fn push_exprs(out: &mut String, exprs: &[Expr]) -> Result<(), AllocError>
-    ensures { OnOk result (string_bytes out.new ≡ string_bytes out.old ++ exprs_text (expr_list (map see_expr exprs.now))) }
+fn push_arguments(out: &mut String, exprs: &[Expr]) -> Result<(), AllocError>
+    ensures { OnOk result (string_bytes out.new ≡ ((string_bytes out.old ++ codes "(") ++ exprs_text (expr_list (map see_expr exprs.now))) ++ codes ")") }
 {
+    out.push_str("(")?;
     for (i, expr) in exprs.iter().enumerate() {
         push_between(out, i, ", ")?;
         push_expr(out, expr)?;
     }
-    Ok(())
+    out.push_str(")")
 }

@@ -5,11 +5,11 @@ ghost use Rattle.decimals.specs.Number.{is_digit};
 ghost use Rattle.guard_lexer.specs.Bytes.{is_letter, is_word};
 ghost use Rattle.guard_syntax.specs.Syntax as sx;
 ghost use Rattle.literal_parser.specs.Lexemes.{keyword_of};
-ghost use Rattle.rule_printer.specs.RuleText.{capture_text, first_key_text, is_free_name, is_name, key_text, names_text, params_text, space_behind};
+ghost use Rattle.rule_printer.specs.RuleText.{capture_text, first_key_text, is_free_name, is_name, key_text, names_text, operator_text, params_text, space_behind};
 ghost use Rattle.rule_printer.specs.code.Printing.{is_among, step_in};
 
-use crate::words::push_between;
-use guard_syntax::Name;
+use crate::words::{push_between, push_operator};
+use guard_syntax::{Name, Op};
 use rule_spelling::push_quoted;
 use std::alloc::AllocError;
 
@@ -151,7 +151,7 @@ pub(crate) fn push_key(out: &mut String, first: bool, key: &str) -> Result<(), A
 }
 
 /// Appends a space where a bracket behind a name would open a range.
-pub(crate) fn push_space_behind(out: &mut String, name: &str) -> Result<(), AllocError>
+fn push_space_behind(out: &mut String, name: &str) -> Result<(), AllocError>
     ensures { OnOk result (string_bytes out.new ≡ string_bytes out.old ++ space_behind name.now) }
 {
     if name == "r" {
@@ -161,8 +161,24 @@ pub(crate) fn push_space_behind(out: &mut String, name: &str) -> Result<(), Allo
     }
 }
 
+/// Appends the name of a function, with the space behind it where it needs one.
+pub(crate) fn push_function_name(out: &mut String, name: &str) -> Result<(), AllocError>
+    ensures { OnOk result (string_bytes out.new ≡ (string_bytes out.old ++ name.now) ++ space_behind name.now) }
+{
+    out.push_str(name)?;
+    push_space_behind(out, name)
+}
+
+/// Appends a name behind its sign.
+pub(crate) fn push_signed(out: &mut String, sign: &str, name: &str) -> Result<(), AllocError>
+    ensures { OnOk result (string_bytes out.new ≡ (string_bytes out.old ++ sign.now) ++ name.now) }
+{
+    out.push_str(sign)?;
+    out.push_str(name)
+}
+
 /// Appends the capture of a filter, if it has one.
-pub(crate) fn push_capture(out: &mut String, capture: &Option<Name>) -> Result<(), AllocError>
+fn push_capture(out: &mut String, capture: &Option<Name>) -> Result<(), AllocError>
     ensures { OnOk result (string_bytes out.new ≡ string_bytes out.old ++ capture_text capture.now) }
 {
     match capture {
@@ -172,6 +188,29 @@ pub(crate) fn push_capture(out: &mut String, capture: &Option<Name>) -> Result<(
         }
         None => Ok(()),
     }
+}
+
+/// Appends the bracket of a filter, and its capture if it has one.
+pub(crate) fn push_opened(out: &mut String, capture: &Option<Name>) -> Result<(), AllocError>
+    ensures { OnOk result (string_bytes out.new ≡ (string_bytes out.old ++ codes "[ ") ++ capture_text capture.now) }
+{
+    out.push_str("[ ")?;
+    push_capture(out, capture)
+}
+
+/// Appends a filter on keys, up to its right side.
+pub(crate) fn push_keys_test(
+    out: &mut String,
+    capture: &Option<Name>,
+    op: Op,
+    not: bool,
+) -> Result<(), AllocError>
+    ensures { OnOk result (string_bytes out.new ≡ ((((string_bytes out.old ++ codes "[ ") ++ capture_text capture.now) ++ codes "keys ") ++ operator_text op not) ++ codes " ") }
+{
+    push_opened(out, capture)?;
+    out.push_str("keys ")?;
+    push_operator(out, op, not)?;
+    out.push_str(" ")
 }
 
 /// Appends names.

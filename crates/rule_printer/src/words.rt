@@ -66,6 +66,22 @@ pub(crate) fn push_operator(out: &mut String, op: Op, not: bool) -> Result<(), A
     }
 }
 
+/// Appends an operator, with the space in front.
+pub(crate) fn push_spaced_operator(out: &mut String, op: Op, not: bool) -> Result<(), AllocError>
+    ensures { OnOk result (string_bytes out.new ≡ (string_bytes out.old ++ codes " ") ++ operator_text op not) }
+{
+    out.push_str(" ")?;
+    push_operator(out, op, not)
+}
+
+/// Appends the name of a rule, negated or not.
+pub(crate) fn push_rule_name(out: &mut String, not: bool, name: &str) -> Result<(), AllocError>
+    ensures { OnOk result (string_bytes out.new ≡ (string_bytes out.old ++ word_if not (codes "not ")) ++ name.now) }
+{
+    push_word_if(out, not, "not ")?;
+    out.push_str(name)
+}
+
 /// Appends the message of a part, if it has one.
 pub(crate) fn push_note(out: &mut String, note: &Option<Text>) -> Result<(), AllocError>
     ensures { OnOk result (string_bytes out.new ≡ string_bytes out.old ++ note_text note.now) }

@@ -1,34 +1,36 @@
-use Rattle.std.proofs.Common.{ℕ, List, false, map, refl, ap, sym, ◌∙◌, ◌-◌, ◌+◌, ◌++◌, [], ◌∷◌}
+use Rattle.std.proofs.Common.{ℕ, List, false, map, refl, ap, sym, ◌∙◌, ◌-◌, ◌++◌, [], ◌∷◌}
 use Rattle.std.proofs.lemmas.List.{map-append}
 use Rattle.guard_syntax.specs.Syntax as sx
 use Rattle.guard_syntax.specs.code.Seen.{see_conds, see_disj, see_expr, see_part, see_query, see_step}
-use Rattle.literal_parser.specs.Forms.{begins_cond, begins_step, is_comma, is_or, is_keys, is_lparen, is_rparen, is_lbracket, is_rbracket, is_dot, is_star, is_index, is_name, leads, text_of}
+use Rattle.literal_parser.specs.Forms.{begins_cond, begins_step, is_comma, is_or, is_keys, is_lparen, is_rparen, is_lbracket, is_rbracket, is_dot, is_star, is_index, is_name, is_binary, leads, text_of}
 use Rattle.literal_parser.specs.code.Parser.{One, Read, pure, and_then, ◌>>=◌, ◌>>◌, opens, takes, has}
 use Rattle.literal_parser.specs.code.Reads.{site_of, source, state_of}
 use Rattle.guard_parser.specs.declared.lead.Lead.{Lead}
 use Rattle.guard_parser.specs.declared.lead.ExprForm.{ExprForm}
 use Rattle.guard_parser.specs.code.Leads.{lead_of, led_by, expr_by}
 use Rattle.guard_parser.specs.code.Reading as spec
-use Rattle.guard_parser.specs.code.Reading.{disjs, ors, steps, more_exprs_of, exprs_of, conds_of, disj_of, query_of, start_step, cond_part, headed, judged, ruled, called, applied, asked_expr, step, dotted, bracketed, keyed, filtered}
+use Rattle.guard_parser.specs.code.Reading.{disjs, ors, steps, more_exprs_of, exprs_of, conds_of, disj_of, query_of, start_step, cond_part, headed, judged, tested, right, referred, ruled, called, applied, asked_expr, step, dotted, bracketed, keyed, filtered}
 use Rattle.guard_parser.specs.code.GrammarReads.{KeyTest, inner, see_disjs, see_parts, see_steps, see_exprs, see_key_test, alternatives_at, more_alternatives_at, cond_part_at, conds_at, disjs_at, dotted_at, items_at, closed_index_at, query_at, step_at, steps_at, expr_at, tree_expr_at, more_exprs_at, some_disjs_at, some_conditions_at, some_steps_at, closed_exprs_at, closed_exprs, arguments_at, named_at, tested_at, called_at, applied_at, filter_at, key_test_at}
-use Rattle.guard_parser.proofs.CodeSteps.{then_read, then_fail, saw, handed, halted, halted_by, both, then_closed, then_enclosed, then_tested, closed_by, list_begun, list_more, list_ended, list_failed, list_spent, deeper}
+use Rattle.guard_parser.proofs.CodeSteps.{then_read, then_fail, seen_as, tested_by, saw, handed, halted, halted_by, halted_adding, taken, both, then_closed, then_enclosed, then_tested, closed_by, list_begun, list_more, list_ended, list_failed, list_spent, deeper}
 use Rattle.guard_parser.proofs.Leads.{condition_led, expr_formed}
 use Rattle.guard_parser.proofs.Rooms.{roomy_reads, full_stops, room_left, no_room}
-use Rattle.guard_parser.proofs.SeenForms.{conds-made, disj-made, query-made, call-made, function-made, asked-made, keys-made, filter-made}
+use Rattle.guard_parser.proofs.SeenForms.{conds-made, disj-made, query-made, test-made, refer-made, call-made, function-made, asked-made, keys-made, filter-made}
 use Rattle.guard_parser.proofs.+conditions.Goals as goal
 
 pub read_condition::add_disjs-loop-turn-init : goal.read_condition::add_disjs-loop-turn-init
 unfolding disjs
 read_condition::add_disjs-loop-turn-init t c =
+    let got = taken see_disj (alternatives_at c.args.tokens c.args.depth (state_of c.args.cursor.now) c.args.cursor.now.seen) c.alternatives.result _ _ c.alternatives.new.cursor c.alternatives.ensures c.in_ok-add.ensures in
     list_begun sx.more_disjs pure _ _ (λ (k : ℕ). disjs_at c.args.tokens c.args.depth k) c.args.tokens.turns (some_disjs_at c.args.tokens c.args.depth (state_of c.args.cursor.now) c.args.cursor.now.seen) (state_of c.alternatives.new.cursor) c.alternatives.new.cursor.seen
-    (then_read _ c.in_ok-alternatives.ensures refl) (ap (map see_disj) (c.in_ok-add.ensures.added ∙ ap (λ xs. xs ++ c.in_ok-alternatives.field-0 ∷ []) c.requires.none))
+    (then_read _ got.1 refl) (ap (map see_disj) (got.2 ∙ ap (λ xs. xs ++ got.0 ∷ []) c.requires.none))
 
 pub read_condition::add_disjs-loop-turn-preserved : goal.read_condition::add_disjs-loop-turn-preserved
 unfolding disjs
 read_condition::add_disjs-loop-turn-preserved t c =
+    let got = taken see_disj (alternatives_at c.args.tokens c.args.depth (state_of c.sees.new.self) c.sees.new.self.seen) c.alternatives-in-loop-turn.result _ _ c.alternatives-in-loop-turn.new.cursor c.alternatives-in-loop-turn.ensures c.in_ok-add-2.ensures in
     list_more sx.more_disjs pure (map see_disj c.loop-turn.found.items) (λ (k : ℕ). disjs_at c.args.tokens c.args.depth k) c.args.tokens.turns c.loop-turn._turn (some_disjs_at c.args.tokens c.args.depth (state_of c.args.cursor.now) c.args.cursor.now.seen) (state_of c.loop-turn.cursor) c.loop-turn.cursor.seen c.loop-turn.invariant _ _ (state_of c.alternatives-in-loop-turn.new.cursor) c.alternatives-in-loop-turn.new.cursor.seen c.loop-turn-test.true
-    (saw (source c.args.tokens) begins_cond _ _ (state_of c.loop-turn.cursor) c.loop-turn.cursor.seen c.sees.ensures.token c.if-not-sees.false c.sees.ensures.state c.sees.ensures.seen (then_read _ c.in_ok-alternatives-2.ensures refl))
-    (ap (map see_disj) c.in_ok-add-2.ensures.added ∙ map-append see_disj c.loop-turn.found.items _)
+    (saw (source c.args.tokens) begins_cond _ _ (state_of c.loop-turn.cursor) c.loop-turn.cursor.seen c.sees.ensures.token c.if-not-sees.false c.sees.ensures.state c.sees.ensures.seen (then_read _ got.1 refl))
+    (ap (map see_disj) got.2 ∙ map-append see_disj c.loop-turn.found.items _)
 
 pub read_condition::add_disjs-returns-then-not-sees : goal.read_condition::add_disjs-returns-then-not-sees
 unfolding disjs
@@ -41,33 +43,35 @@ unfolding disjs
 read_condition::add_disjs-returns t c =
     list_spent sx.more_disjs pure (map see_disj c.loop-turn.found.items) (λ (k : ℕ). disjs_at c.args.tokens c.args.depth k) c.args.tokens.turns c.loop-turn._turn (some_disjs_at c.args.tokens c.args.depth (state_of c.args.cursor.now) c.args.cursor.now.seen) (state_of c.loop-turn.cursor) c.loop-turn.cursor.seen c.loop-turn.invariant c.loop-turn-test.false refl
 
-pub read_condition::add_disjs-returns-in_err-alternatives : goal.read_condition::add_disjs-returns-in_err-alternatives
+pub read_condition::add_disjs-returns-in_err-add : goal.read_condition::add_disjs-returns-in_err-add
 unfolding disjs
-read_condition::add_disjs-returns-in_err-alternatives t c =
-    halted see_disj (λ _. see_disjs c.args.found.now) (alternatives_at c.args.tokens c.args.depth (state_of c.args.cursor.now) c.args.cursor.now.seen)
-    _ (some_disjs_at c.args.tokens c.args.depth (state_of c.args.cursor.now) c.args.cursor.now.seen) c.from_residual.result c.in_err-alternatives.field-0.0 c.alternatives.new.cursor c.alternatives.new.cursor c.from_residual.ensures.1
-    (refl) c.in_err-alternatives.ensures
+read_condition::add_disjs-returns-in_err-add t c =
+    halted_adding see_disj (λ _. see_disjs c.add.new.found) (alternatives_at c.args.tokens c.args.depth (state_of c.args.cursor.now) c.args.cursor.now.seen)
+    (some_disjs_at c.args.tokens c.args.depth (state_of c.args.cursor.now) c.args.cursor.now.seen) c.alternatives.result _ _ c.from_residual.result c.in_err-add.field-0.0 c.alternatives.new.cursor c.alternatives.new.cursor c.from_residual.ensures.1
+    (λ k z. then_fail _ z) c.alternatives.ensures c.in_err-add.ensures
 
-pub read_condition::add_disjs-returns-in_err-alternatives-2 : goal.read_condition::add_disjs-returns-in_err-alternatives-2
+pub read_condition::add_disjs-returns-in_err-add-2 : goal.read_condition::add_disjs-returns-in_err-add-2
 unfolding disjs
-read_condition::add_disjs-returns-in_err-alternatives-2 t c =
-    halted_by see_disj (λ _. see_disjs c.loop-turn.found) (alternatives_at c.args.tokens c.args.depth (state_of c.sees.new.self) c.sees.new.self.seen)
-    (some_disjs_at c.args.tokens c.args.depth (state_of c.args.cursor.now) c.args.cursor.now.seen) c.from_residual-in_err-alternatives-2.result c.in_err-alternatives-2.field-0.0 c.alternatives-in-loop-turn.new.cursor c.alternatives-in-loop-turn.new.cursor c.from_residual-in_err-alternatives-2.ensures.1
+read_condition::add_disjs-returns-in_err-add-2 t c =
+    halted_adding see_disj (λ _. see_disjs c.add-in-loop-turn.new.found) (alternatives_at c.args.tokens c.args.depth (state_of c.sees.new.self) c.sees.new.self.seen)
+    (some_disjs_at c.args.tokens c.args.depth (state_of c.args.cursor.now) c.args.cursor.now.seen) c.alternatives-in-loop-turn.result _ _ c.from_residual-in_err-add-2.result c.in_err-add-2.field-0.0 c.alternatives-in-loop-turn.new.cursor c.alternatives-in-loop-turn.new.cursor c.from_residual-in_err-add-2.ensures.1
     (λ k e. list_failed sx.more_disjs pure (map see_disj c.loop-turn.found.items) (λ (k : ℕ). disjs_at c.args.tokens c.args.depth k) c.args.tokens.turns c.loop-turn._turn (some_disjs_at c.args.tokens c.args.depth (state_of c.args.cursor.now) c.args.cursor.now.seen) (state_of c.loop-turn.cursor) c.loop-turn.cursor.seen c.loop-turn.invariant k c.loop-turn-test.true
-    (saw (source c.args.tokens) begins_cond _ _ (state_of c.loop-turn.cursor) c.loop-turn.cursor.seen c.sees.ensures.token c.if-not-sees.false c.sees.ensures.state c.sees.ensures.seen (then_fail _ e))) c.in_err-alternatives-2.ensures
+    (saw (source c.args.tokens) begins_cond _ _ (state_of c.loop-turn.cursor) c.loop-turn.cursor.seen c.sees.ensures.token c.if-not-sees.false c.sees.ensures.state c.sees.ensures.seen (then_fail _ e))) c.alternatives-in-loop-turn.ensures c.in_err-add-2.ensures
 
 pub read_condition::add_conditions-loop-turn-init : goal.read_condition::add_conditions-loop-turn-init
 unfolding ors
 read_condition::add_conditions-loop-turn-init t c =
+    let got = taken see_part (cond_part_at c.args.tokens c.args.depth (state_of c.args.cursor.now) c.args.cursor.now.seen) c.condition.result _ _ c.condition.new.cursor c.condition.ensures c.in_ok-add.ensures in
     list_begun sx.more_parts pure _ _ (λ (k : ℕ). more_alternatives_at c.args.tokens c.args.depth k) c.args.tokens.turns (some_conditions_at c.args.tokens c.args.depth (state_of c.args.cursor.now) c.args.cursor.now.seen) (state_of c.condition.new.cursor) c.condition.new.cursor.seen
-    (then_read _ c.in_ok-condition.ensures refl) (ap (map see_part) (c.in_ok-add.ensures.added ∙ ap (λ xs. xs ++ c.in_ok-condition.field-0 ∷ []) c.requires.none))
+    (then_read _ got.1 refl) (ap (map see_part) (got.2 ∙ ap (λ xs. xs ++ got.0 ∷ []) c.requires.none))
 
 pub read_condition::add_conditions-loop-turn-preserved : goal.read_condition::add_conditions-loop-turn-preserved
 unfolding ors
 read_condition::add_conditions-loop-turn-preserved t c =
+    let got = taken see_part (cond_part_at c.args.tokens c.args.depth (state_of c.takes.new.self) c.takes.new.self.seen) c.condition-in-loop-turn.result _ _ c.condition-in-loop-turn.new.cursor c.condition-in-loop-turn.ensures c.in_ok-add-2.ensures in
     list_more sx.more_parts pure (map see_part c.loop-turn.found.items) (λ (k : ℕ). more_alternatives_at c.args.tokens c.args.depth k) c.args.tokens.turns c.loop-turn._turn (some_conditions_at c.args.tokens c.args.depth (state_of c.args.cursor.now) c.args.cursor.now.seen) (state_of c.loop-turn.cursor) c.loop-turn.cursor.seen c.loop-turn.invariant _ _ (state_of c.condition-in-loop-turn.new.cursor) c.condition-in-loop-turn.new.cursor.seen c.loop-turn-test.true
-    (saw (source c.args.tokens) is_or _ _ (state_of c.loop-turn.cursor) c.loop-turn.cursor.seen c.sees.ensures.token c.if-not-sees.false c.sees.ensures.state c.sees.ensures.seen (then_read _ c.in_ok-takes.ensures (then_read _ c.in_ok-condition-2.ensures refl)))
-    (ap (map see_part) c.in_ok-add-2.ensures.added ∙ map-append see_part c.loop-turn.found.items _)
+    (saw (source c.args.tokens) is_or _ _ (state_of c.loop-turn.cursor) c.loop-turn.cursor.seen c.sees.ensures.token c.if-not-sees.false c.sees.ensures.state c.sees.ensures.seen (then_read _ c.in_ok-takes.ensures (then_read _ got.1 refl)))
+    (ap (map see_part) got.2 ∙ map-append see_part c.loop-turn.found.items _)
 
 pub read_condition::add_conditions-returns-then-not-sees : goal.read_condition::add_conditions-returns-then-not-sees
 unfolding ors
@@ -80,20 +84,20 @@ unfolding ors
 read_condition::add_conditions-returns t c =
     list_spent sx.more_parts pure (map see_part c.loop-turn.found.items) (λ (k : ℕ). more_alternatives_at c.args.tokens c.args.depth k) c.args.tokens.turns c.loop-turn._turn (some_conditions_at c.args.tokens c.args.depth (state_of c.args.cursor.now) c.args.cursor.now.seen) (state_of c.loop-turn.cursor) c.loop-turn.cursor.seen c.loop-turn.invariant c.loop-turn-test.false refl
 
-pub read_condition::add_conditions-returns-in_err-condition : goal.read_condition::add_conditions-returns-in_err-condition
+pub read_condition::add_conditions-returns-in_err-add : goal.read_condition::add_conditions-returns-in_err-add
 unfolding ors
-read_condition::add_conditions-returns-in_err-condition t c =
-    halted see_part (λ _. see_parts c.args.found.now) (cond_part_at c.args.tokens c.args.depth (state_of c.args.cursor.now) c.args.cursor.now.seen)
-    _ (some_conditions_at c.args.tokens c.args.depth (state_of c.args.cursor.now) c.args.cursor.now.seen) c.from_residual.result c.in_err-condition.field-0.0 c.condition.new.cursor c.condition.new.cursor c.from_residual.ensures.1
-    (refl) c.in_err-condition.ensures
+read_condition::add_conditions-returns-in_err-add t c =
+    halted_adding see_part (λ _. see_parts c.add.new.found) (cond_part_at c.args.tokens c.args.depth (state_of c.args.cursor.now) c.args.cursor.now.seen)
+    (some_conditions_at c.args.tokens c.args.depth (state_of c.args.cursor.now) c.args.cursor.now.seen) c.condition.result _ _ c.from_residual.result c.in_err-add.field-0.0 c.condition.new.cursor c.condition.new.cursor c.from_residual.ensures.1
+    (λ k z. then_fail _ z) c.condition.ensures c.in_err-add.ensures
 
-pub read_condition::add_conditions-returns-in_err-condition-2 : goal.read_condition::add_conditions-returns-in_err-condition-2
+pub read_condition::add_conditions-returns-in_err-add-2 : goal.read_condition::add_conditions-returns-in_err-add-2
 unfolding ors
-read_condition::add_conditions-returns-in_err-condition-2 t c =
-    halted_by see_part (λ _. see_parts c.loop-turn.found) (cond_part_at c.args.tokens c.args.depth (state_of c.takes.new.self) c.takes.new.self.seen)
-    (some_conditions_at c.args.tokens c.args.depth (state_of c.args.cursor.now) c.args.cursor.now.seen) c.from_residual-in_err-condition-2.result c.in_err-condition-2.field-0.0 c.condition-in-loop-turn.new.cursor c.condition-in-loop-turn.new.cursor c.from_residual-in_err-condition-2.ensures.1
+read_condition::add_conditions-returns-in_err-add-2 t c =
+    halted_adding see_part (λ _. see_parts c.add-in-loop-turn.new.found) (cond_part_at c.args.tokens c.args.depth (state_of c.takes.new.self) c.takes.new.self.seen)
+    (some_conditions_at c.args.tokens c.args.depth (state_of c.args.cursor.now) c.args.cursor.now.seen) c.condition-in-loop-turn.result _ _ c.from_residual-in_err-add-2.result c.in_err-add-2.field-0.0 c.condition-in-loop-turn.new.cursor c.condition-in-loop-turn.new.cursor c.from_residual-in_err-add-2.ensures.1
     (λ k e. list_failed sx.more_parts pure (map see_part c.loop-turn.found.items) (λ (k : ℕ). more_alternatives_at c.args.tokens c.args.depth k) c.args.tokens.turns c.loop-turn._turn (some_conditions_at c.args.tokens c.args.depth (state_of c.args.cursor.now) c.args.cursor.now.seen) (state_of c.loop-turn.cursor) c.loop-turn.cursor.seen c.loop-turn.invariant k c.loop-turn-test.true
-    (saw (source c.args.tokens) is_or _ _ (state_of c.loop-turn.cursor) c.loop-turn.cursor.seen c.sees.ensures.token c.if-not-sees.false c.sees.ensures.state c.sees.ensures.seen (then_read _ c.in_ok-takes.ensures (then_fail _ e)))) c.in_err-condition-2.ensures
+    (saw (source c.args.tokens) is_or _ _ (state_of c.loop-turn.cursor) c.loop-turn.cursor.seen c.sees.ensures.token c.if-not-sees.false c.sees.ensures.state c.sees.ensures.seen (then_read _ c.in_ok-takes.ensures (then_fail _ e)))) c.condition-in-loop-turn.ensures c.in_err-add-2.ensures
 
 pub read_condition::add_conditions-returns-in_err-takes : goal.read_condition::add_conditions-returns-in_err-takes
 unfolding ors
@@ -106,15 +110,17 @@ read_condition::add_conditions-returns-in_err-takes t c =
 pub read_query::add_steps-loop-turn-init : goal.read_query::add_steps-loop-turn-init
 unfolding steps start_step
 read_query::add_steps-loop-turn-init t c =
+    let got = taken see_step (start_step (source c.args.tokens) c.args.tokens.turns (inner c.args.tokens c.args.depth) (state_of c.args.cursor.now) c.args.cursor.now.seen) c.start_step.result _ _ c.start_step.new.cursor c.start_step.ensures c.in_ok-add.ensures in
     list_begun sx.more_steps pure _ _ (λ (k : ℕ). steps_at c.args.tokens c.args.depth k) c.args.tokens.turns (some_steps_at c.args.tokens c.args.depth (state_of c.args.cursor.now) c.args.cursor.now.seen) (state_of c.start_step.new.cursor) c.start_step.new.cursor.seen
-    (then_read _ c.in_ok-start_step.ensures refl) (ap (map see_step) (c.in_ok-add.ensures.added ∙ ap (λ xs. xs ++ c.in_ok-start_step.field-0 ∷ []) c.requires.none))
+    (then_read _ got.1 refl) (ap (map see_step) (got.2 ∙ ap (λ xs. xs ++ got.0 ∷ []) c.requires.none))
 
 pub read_query::add_steps-loop-turn-preserved : goal.read_query::add_steps-loop-turn-preserved
 unfolding steps start_step
 read_query::add_steps-loop-turn-preserved t c =
+    let got = taken see_step (step_at c.args.tokens c.args.depth (state_of c.sees.new.self) c.sees.new.self.seen) c.step.result _ _ c.step.new.cursor c.step.ensures c.in_ok-add-2.ensures in
     list_more sx.more_steps pure (map see_step c.loop-turn.found.items) (λ (k : ℕ). steps_at c.args.tokens c.args.depth k) c.args.tokens.turns c.loop-turn._turn (some_steps_at c.args.tokens c.args.depth (state_of c.args.cursor.now) c.args.cursor.now.seen) (state_of c.loop-turn.cursor) c.loop-turn.cursor.seen c.loop-turn.invariant _ _ (state_of c.step.new.cursor) c.step.new.cursor.seen c.loop-turn-test.true
-    (saw (source c.args.tokens) begins_step _ _ (state_of c.loop-turn.cursor) c.loop-turn.cursor.seen c.sees.ensures.token c.if-not-sees.false c.sees.ensures.state c.sees.ensures.seen (then_read _ c.in_ok-step.ensures refl))
-    (ap (map see_step) c.in_ok-add-2.ensures.added ∙ map-append see_step c.loop-turn.found.items _)
+    (saw (source c.args.tokens) begins_step _ _ (state_of c.loop-turn.cursor) c.loop-turn.cursor.seen c.sees.ensures.token c.if-not-sees.false c.sees.ensures.state c.sees.ensures.seen (then_read _ got.1 refl))
+    (ap (map see_step) got.2 ∙ map-append see_step c.loop-turn.found.items _)
 
 pub read_query::add_steps-returns-then-not-sees : goal.read_query::add_steps-returns-then-not-sees
 unfolding steps start_step
@@ -127,33 +133,35 @@ unfolding steps start_step
 read_query::add_steps-returns t c =
     list_spent sx.more_steps pure (map see_step c.loop-turn.found.items) (λ (k : ℕ). steps_at c.args.tokens c.args.depth k) c.args.tokens.turns c.loop-turn._turn (some_steps_at c.args.tokens c.args.depth (state_of c.args.cursor.now) c.args.cursor.now.seen) (state_of c.loop-turn.cursor) c.loop-turn.cursor.seen c.loop-turn.invariant c.loop-turn-test.false refl
 
-pub read_query::add_steps-returns-in_err-start_step : goal.read_query::add_steps-returns-in_err-start_step
+pub read_query::add_steps-returns-in_err-add : goal.read_query::add_steps-returns-in_err-add
 unfolding steps start_step
-read_query::add_steps-returns-in_err-start_step t c =
-    halted see_step (λ _. see_steps c.args.found.now) (start_step (source c.args.tokens) c.args.tokens.turns (inner c.args.tokens c.args.depth) (state_of c.args.cursor.now) c.args.cursor.now.seen)
-    _ (some_steps_at c.args.tokens c.args.depth (state_of c.args.cursor.now) c.args.cursor.now.seen) c.from_residual.result c.in_err-start_step.field-0.0 c.start_step.new.cursor c.start_step.new.cursor c.from_residual.ensures.1
-    (refl) c.in_err-start_step.ensures
+read_query::add_steps-returns-in_err-add t c =
+    halted_adding see_step (λ _. see_steps c.add.new.found) (start_step (source c.args.tokens) c.args.tokens.turns (inner c.args.tokens c.args.depth) (state_of c.args.cursor.now) c.args.cursor.now.seen)
+    (some_steps_at c.args.tokens c.args.depth (state_of c.args.cursor.now) c.args.cursor.now.seen) c.start_step.result _ _ c.from_residual.result c.in_err-add.field-0.0 c.start_step.new.cursor c.start_step.new.cursor c.from_residual.ensures.1
+    (λ k z. then_fail _ z) c.start_step.ensures c.in_err-add.ensures
 
-pub read_query::add_steps-returns-in_err-step : goal.read_query::add_steps-returns-in_err-step
+pub read_query::add_steps-returns-in_err-add-2 : goal.read_query::add_steps-returns-in_err-add-2
 unfolding steps start_step
-read_query::add_steps-returns-in_err-step t c =
-    halted_by see_step (λ _. see_steps c.loop-turn.found) (step_at c.args.tokens c.args.depth (state_of c.sees.new.self) c.sees.new.self.seen)
-    (some_steps_at c.args.tokens c.args.depth (state_of c.args.cursor.now) c.args.cursor.now.seen) c.from_residual-in_err-step.result c.in_err-step.field-0.0 c.step.new.cursor c.step.new.cursor c.from_residual-in_err-step.ensures.1
+read_query::add_steps-returns-in_err-add-2 t c =
+    halted_adding see_step (λ _. see_steps c.add-in-loop-turn.new.found) (step_at c.args.tokens c.args.depth (state_of c.sees.new.self) c.sees.new.self.seen)
+    (some_steps_at c.args.tokens c.args.depth (state_of c.args.cursor.now) c.args.cursor.now.seen) c.step.result _ _ c.from_residual-in_err-add-2.result c.in_err-add-2.field-0.0 c.step.new.cursor c.step.new.cursor c.from_residual-in_err-add-2.ensures.1
     (λ k e. list_failed sx.more_steps pure (map see_step c.loop-turn.found.items) (λ (k : ℕ). steps_at c.args.tokens c.args.depth k) c.args.tokens.turns c.loop-turn._turn (some_steps_at c.args.tokens c.args.depth (state_of c.args.cursor.now) c.args.cursor.now.seen) (state_of c.loop-turn.cursor) c.loop-turn.cursor.seen c.loop-turn.invariant k c.loop-turn-test.true
-    (saw (source c.args.tokens) begins_step _ _ (state_of c.loop-turn.cursor) c.loop-turn.cursor.seen c.sees.ensures.token c.if-not-sees.false c.sees.ensures.state c.sees.ensures.seen (then_fail _ e))) c.in_err-step.ensures
+    (saw (source c.args.tokens) begins_step _ _ (state_of c.loop-turn.cursor) c.loop-turn.cursor.seen c.sees.ensures.token c.if-not-sees.false c.sees.ensures.state c.sees.ensures.seen (then_fail _ e))) c.step.ensures c.in_err-add-2.ensures
 
 pub read_query::add_exprs-loop-turn-init : goal.read_query::add_exprs-loop-turn-init
 unfolding more_exprs_of exprs_of
 read_query::add_exprs-loop-turn-init t c =
+    let got = taken see_expr (expr_at c.args.tokens c.args.depth (state_of c.args.cursor.now) c.args.cursor.now.seen) c.expr.result _ _ c.expr.new.cursor c.expr.ensures c.in_ok-add.ensures in
     list_begun sx.more_exprs (closed_exprs c.args.tokens c.args.depth) _ _ (λ (k : ℕ). more_exprs_at c.args.tokens c.args.depth k) c.args.tokens.turns (closed_exprs_at c.args.tokens c.args.depth (state_of c.args.cursor.now) c.args.cursor.now.seen) (state_of c.expr.new.cursor) c.expr.new.cursor.seen
-    (then_read _ c.in_ok-expr.ensures refl) (ap (map see_expr) (c.in_ok-add.ensures.added ∙ ap (λ xs. xs ++ c.in_ok-expr.field-0 ∷ []) c.requires.none))
+    (then_read _ got.1 refl) (ap (map see_expr) (got.2 ∙ ap (λ xs. xs ++ got.0 ∷ []) c.requires.none))
 
 pub read_query::add_exprs-loop-turn-preserved : goal.read_query::add_exprs-loop-turn-preserved
 unfolding more_exprs_of exprs_of
 read_query::add_exprs-loop-turn-preserved t c =
+    let got = taken see_expr (expr_at c.args.tokens c.args.depth (state_of c.takes-in-loop-turn.new.self) c.takes-in-loop-turn.new.self.seen) c.expr-in-loop-turn.result _ _ c.expr-in-loop-turn.new.cursor c.expr-in-loop-turn.ensures c.in_ok-add-2.ensures in
     list_more sx.more_exprs (closed_exprs c.args.tokens c.args.depth) (map see_expr c.loop-turn.found.items) (λ (k : ℕ). more_exprs_at c.args.tokens c.args.depth k) c.args.tokens.turns c.loop-turn._turn (closed_exprs_at c.args.tokens c.args.depth (state_of c.args.cursor.now) c.args.cursor.now.seen) (state_of c.loop-turn.cursor) c.loop-turn.cursor.seen c.loop-turn.invariant _ _ (state_of c.expr-in-loop-turn.new.cursor) c.expr-in-loop-turn.new.cursor.seen c.loop-turn-test.true
-    (saw (source c.args.tokens) is_comma _ _ (state_of c.loop-turn.cursor) c.loop-turn.cursor.seen c.sees.ensures.token c.if-not-sees.false c.sees.ensures.state c.sees.ensures.seen (then_read _ c.in_ok-takes.ensures (then_read _ c.in_ok-expr-2.ensures refl)))
-    (ap (map see_expr) c.in_ok-add-2.ensures.added ∙ map-append see_expr c.loop-turn.found.items _)
+    (saw (source c.args.tokens) is_comma _ _ (state_of c.loop-turn.cursor) c.loop-turn.cursor.seen c.sees.ensures.token c.if-not-sees.false c.sees.ensures.state c.sees.ensures.seen (then_read _ c.in_ok-takes.ensures (then_read _ got.1 refl)))
+    (ap (map see_expr) got.2 ∙ map-append see_expr c.loop-turn.found.items _)
 
 pub read_query::add_exprs-returns-then-not-sees : goal.read_query::add_exprs-returns-then-not-sees
 unfolding more_exprs_of exprs_of
@@ -167,20 +175,20 @@ unfolding more_exprs_of exprs_of
 read_query::add_exprs-returns t c =
     list_spent sx.more_exprs (closed_exprs c.args.tokens c.args.depth) (map see_expr c.loop-turn.found.items) (λ (k : ℕ). more_exprs_at c.args.tokens c.args.depth k) c.args.tokens.turns c.loop-turn._turn (closed_exprs_at c.args.tokens c.args.depth (state_of c.args.cursor.now) c.args.cursor.now.seen) (state_of c.loop-turn.cursor) c.loop-turn.cursor.seen c.loop-turn.invariant c.loop-turn-test.false refl
 
-pub read_query::add_exprs-returns-in_err-expr : goal.read_query::add_exprs-returns-in_err-expr
+pub read_query::add_exprs-returns-in_err-add : goal.read_query::add_exprs-returns-in_err-add
 unfolding more_exprs_of exprs_of
-read_query::add_exprs-returns-in_err-expr t c =
-    halted see_expr (λ _. see_exprs c.args.found.now) (expr_at c.args.tokens c.args.depth (state_of c.args.cursor.now) c.args.cursor.now.seen)
-    _ (closed_exprs_at c.args.tokens c.args.depth (state_of c.args.cursor.now) c.args.cursor.now.seen) c.from_residual.result c.in_err-expr.field-0.0 c.expr.new.cursor c.expr.new.cursor c.from_residual.ensures.1
-    (refl) c.in_err-expr.ensures
+read_query::add_exprs-returns-in_err-add t c =
+    halted_adding see_expr (λ _. see_exprs c.add.new.found) (expr_at c.args.tokens c.args.depth (state_of c.args.cursor.now) c.args.cursor.now.seen)
+    (closed_exprs_at c.args.tokens c.args.depth (state_of c.args.cursor.now) c.args.cursor.now.seen) c.expr.result _ _ c.from_residual.result c.in_err-add.field-0.0 c.expr.new.cursor c.expr.new.cursor c.from_residual.ensures.1
+    (λ k z. then_fail _ z) c.expr.ensures c.in_err-add.ensures
 
-pub read_query::add_exprs-returns-in_err-expr-2 : goal.read_query::add_exprs-returns-in_err-expr-2
+pub read_query::add_exprs-returns-in_err-add-2 : goal.read_query::add_exprs-returns-in_err-add-2
 unfolding more_exprs_of exprs_of
-read_query::add_exprs-returns-in_err-expr-2 t c =
-    halted_by see_expr (λ _. see_exprs c.loop-turn.found) (expr_at c.args.tokens c.args.depth (state_of c.takes-in-loop-turn.new.self) c.takes-in-loop-turn.new.self.seen)
-    (closed_exprs_at c.args.tokens c.args.depth (state_of c.args.cursor.now) c.args.cursor.now.seen) c.from_residual-in_err-expr-2.result c.in_err-expr-2.field-0.0 c.expr-in-loop-turn.new.cursor c.expr-in-loop-turn.new.cursor c.from_residual-in_err-expr-2.ensures.1
+read_query::add_exprs-returns-in_err-add-2 t c =
+    halted_adding see_expr (λ _. see_exprs c.add-in-loop-turn.new.found) (expr_at c.args.tokens c.args.depth (state_of c.takes-in-loop-turn.new.self) c.takes-in-loop-turn.new.self.seen)
+    (closed_exprs_at c.args.tokens c.args.depth (state_of c.args.cursor.now) c.args.cursor.now.seen) c.expr-in-loop-turn.result _ _ c.from_residual-in_err-add-2.result c.in_err-add-2.field-0.0 c.expr-in-loop-turn.new.cursor c.expr-in-loop-turn.new.cursor c.from_residual-in_err-add-2.ensures.1
     (λ k e. list_failed sx.more_exprs (closed_exprs c.args.tokens c.args.depth) (map see_expr c.loop-turn.found.items) (λ (k : ℕ). more_exprs_at c.args.tokens c.args.depth k) c.args.tokens.turns c.loop-turn._turn (closed_exprs_at c.args.tokens c.args.depth (state_of c.args.cursor.now) c.args.cursor.now.seen) (state_of c.loop-turn.cursor) c.loop-turn.cursor.seen c.loop-turn.invariant k c.loop-turn-test.true
-    (saw (source c.args.tokens) is_comma _ _ (state_of c.loop-turn.cursor) c.loop-turn.cursor.seen c.sees.ensures.token c.if-not-sees.false c.sees.ensures.state c.sees.ensures.seen (then_read _ c.in_ok-takes.ensures (then_fail _ e)))) c.in_err-expr-2.ensures
+    (saw (source c.args.tokens) is_comma _ _ (state_of c.loop-turn.cursor) c.loop-turn.cursor.seen c.sees.ensures.token c.if-not-sees.false c.sees.ensures.state c.sees.ensures.seen (then_read _ c.in_ok-takes.ensures (then_fail _ e)))) c.expr-in-loop-turn.ensures c.in_err-add-2.ensures
 
 pub read_query::add_exprs-returns-in_err-takes : goal.read_query::add_exprs-returns-in_err-takes
 unfolding more_exprs_of exprs_of
@@ -282,6 +290,35 @@ unfolding cond_part ruled
 read_condition::condition-returns-in_ok-name-in-Rule t c =
     handed see_part (cond_part_at c.args.tokens c.args.depth (state_of c.args.cursor.now) c.args.cursor.now.seen) (named_at c.args.tokens c.args.depth c.in_ok-site.site c.in-Rule.not c.in_ok-name-in-Rule.name (state_of c.has_text.new.self) c.has_text.new.self.seen) c.ruled.result c.ruled.new.cursor
     (then_read _ c.in_ok-site.ensures (condition_led (source c.args.tokens) c.args.tokens.turns (inner c.args.tokens c.args.depth) false c.in_ok-site.site (state_of c.opens.new.self) c.opens.new.self.seen) ∙ ap (λ o. and_then o (led_by (source c.args.tokens) c.args.tokens.turns (inner c.args.tokens c.args.depth) false c.in_ok-site.site)) c.in_ok-any.ensures ∙ ap (λ (l : Lead). (led_by (source c.args.tokens) c.args.tokens.turns (inner c.args.tokens c.args.depth) false c.in_ok-site.site) l (state_of c.lead_of.new.cursor) c.lead_of.new.cursor.seen) c.in-Rule.is ∙ then_read _ c.in_ok-name-in-Rule.ensures refl) c.ruled.ensures
+
+pub read_condition::tested-returns : goal.read_condition::tested-returns
+unfolding tested
+read_condition::tested-returns t c =
+    seen_as (then_read _ c.in_ok-op.ensures (then_read _ c.in_ok-right.ensures (then_read _ c.in_ok-note.ensures refl)))
+    (test-made c.args.head.site c.args.head.any c.args.head.query c.in_ok-op.op c.in_ok-op.not c.in_ok-right.right c.in_ok-note.note)
+
+pub read_condition::right-returns-then-not-is_binary : goal.read_condition::right-returns-then-not-is_binary
+unfolding right
+read_condition::right-returns-then-not-is_binary t c =
+    tested_by (is_binary c.args.op) (expr_at c.args.tokens c.args.depth >>= (λ e. pure (sx.with_expr e))) (pure sx.no_expr) (state_of c.args.cursor.now) c.args.cursor.now.seen c.is_binary.ensures c.if-not-is_binary.true refl
+
+pub read_condition::right-returns : goal.read_condition::right-returns
+unfolding right
+read_condition::right-returns t c =
+    tested_by (is_binary c.args.op) (expr_at c.args.tokens c.args.depth >>= (λ e. pure (sx.with_expr e))) (pure sx.no_expr) (state_of c.args.cursor.now) c.args.cursor.now.seen c.is_binary.ensures c.if-not-is_binary.false
+    (then_read _ c.in_ok-found.ensures refl)
+
+pub read_condition::ruled-returns-then-sees : goal.read_condition::ruled-returns-then-sees
+read_condition::ruled-returns-then-sees t c =
+    handed see_part (named_at c.args.tokens c.args.depth c.args.head.site c.args.head.not c.args.head.name (state_of c.args.cursor.now) c.args.cursor.now.seen)
+    (called_at c.args.tokens c.args.depth c.args.head.site c.args.head.not c.args.head.name (state_of c.sees.new.self) c.sees.new.self.seen) c.called.result c.called.new.cursor
+    (saw (source c.args.tokens) is_lparen _ _ (state_of c.args.cursor.now) c.args.cursor.now.seen c.sees.ensures.token c.if-sees.true c.sees.ensures.state c.sees.ensures.seen refl) c.called.ensures
+
+pub read_condition::ruled-returns : goal.read_condition::ruled-returns
+unfolding referred
+read_condition::ruled-returns t c =
+    seen_as (saw (source c.args.tokens) is_lparen _ _ (state_of c.args.cursor.now) c.args.cursor.now.seen c.sees.ensures.token c.if-sees.false c.sees.ensures.state c.sees.ensures.seen (then_read _ c.in_ok-note.ensures refl))
+    (refer-made c.args.head.site c.args.head.not c.args.head.name c.in_ok-note.note)
 
 pub read_condition::called-returns : goal.read_condition::called-returns
 unfolding called

@@ -4,7 +4,7 @@ use Rattle.std.specs.Prelude.{ℕ, Bool, true, false}
 use Rattle.guard_syntax.specs.Syntax.{Expr, Part}
 use Rattle.literal_parser.specs.Lexemes.{Lexeme}
 use Rattle.literal_parser.specs.Forms.{is_any_name, is_constant, is_function_word, is_lparen, is_name, is_neg, is_operator_word, is_plain, is_some_word, is_start, opens_range}
-use Rattle.literal_parser.specs.code.Parser.{Parser, ◌>>=◌, ◌>>◌, pure, stop, takes, choose, choose_pair, choose_next, choose_third}
+use Rattle.literal_parser.specs.code.Parser.{Parser, ◌>>◌, pure, stop, takes, choose, choose_pair, choose_next, choose_third}
 use Rattle.guard_parser.specs.declared.lead.Lead.{Lead}
 use Rattle.guard_parser.specs.declared.lead.Lead.TheVariants as lead
 use Rattle.guard_parser.specs.declared.lead.ExprForm.{ExprForm}

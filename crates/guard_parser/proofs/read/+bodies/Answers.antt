@@ -1,4 +1,4 @@
-use Rattle.std.proofs.Common.{◌≡◌, ℕ, List, true, map, refl, ap, sym, ◌∙◌, ◌-◌, ◌+◌, ◌++◌, ◌≢◌, length, arith, [], ◌∷◌}
+use Rattle.std.proofs.Common.{◌≡◌, ℕ, List, true, map, refl, ap, sym, ◌∙◌, ◌-◌, ◌++◌, ◌≢◌, length, [], ◌∷◌}
 use Rattle.std.proofs.lemmas.List.{map-append}
 use Rattle.guard_syntax.specs.Syntax as sx
 use Rattle.guard_syntax.specs.code.Seen.{see_body, see_conds, see_opt_conds, see_disj, see_let, see_part, see_query}
@@ -7,11 +7,10 @@ use Rattle.literal_parser.specs.code.Parser.{One, Read, pure, and_then, opens, t
 use Rattle.literal_parser.specs.code.Reads.{site_of, source, state_of}
 use Rattle.guard_parser.specs.declared.lead.Lead.{Lead}
 use Rattle.guard_parser.specs.code.Leads.{lead_of, led_by}
-use Rattle.guard_parser.specs.code.Reading as spec
 use Rattle.guard_parser.specs.code.Reading.{BodyItems, ors, disj_of, full_part, body_of, body_items, guarded_part, kinds_part, headed, judged, ruled}
 use Rattle.guard_parser.specs.code.GrammarReads.{inner, see_items, see_parts, inner_body_at, body_items_at, closed_items_at, closed_body_at, let_at, disj_at, ors_at, some_parts_at, full_part_at, guarded_at, kinds_at, judged_at, named_at, tested_at, conds_at, opt_conds_at, query_at}
-use Rattle.guard_parser.proofs.CodeSteps.{then_read, then_fail, saw, handed, halted, halted_by, both, closed_by, list_begun, list_more, list_ended, list_failed, list_spent, deeper}
-use Rattle.guard_parser.proofs.BodySteps.{closes, items_begun, lets_more, parts_more, items_ended, items_failed, items_spent, none_filled, some_filled}
+use Rattle.guard_parser.proofs.CodeSteps.{then_read, then_fail, saw, handed, halted, halted_by, halted_adding, taken, both, closed_by, list_begun, list_more, list_ended, list_failed, list_spent, deeper}
+use Rattle.guard_parser.proofs.BodySteps.{closes, items_begun, lets_more, parts_more, items_ended, items_failed, items_spent, none_filled, some_filled, none_there, some_there}
 use Rattle.guard_parser.proofs.Leads.{condition_led}
 use Rattle.guard_parser.proofs.Rooms.{roomy_reads, full_stops, room_left, no_room}
 use Rattle.guard_parser.proofs.SeenForms.{disj-made, body-made, guarded-made, kinds-made, block-made}
@@ -20,15 +19,17 @@ use Rattle.guard_parser.proofs.read.+bodies.Goals as goal
 pub add_parts-loop-turn-init : goal.add_parts-loop-turn-init
 unfolding ors
 add_parts-loop-turn-init t c =
+    let got = taken see_part (full_part_at c.args.tokens c.args.depth (state_of c.args.cursor.now) c.args.cursor.now.seen) c.part.result _ _ c.part.new.cursor c.part.ensures c.in_ok-add.ensures in
     list_begun sx.more_parts pure _ _ (λ (k : ℕ). ors_at c.args.tokens c.args.depth k) c.args.tokens.turns (some_parts_at c.args.tokens c.args.depth (state_of c.args.cursor.now) c.args.cursor.now.seen) (state_of c.part.new.cursor) c.part.new.cursor.seen
-    (then_read _ c.in_ok-part.ensures refl) (ap (map see_part) (c.in_ok-add.ensures.added ∙ ap (λ xs. xs ++ c.in_ok-part.field-0 ∷ []) c.requires.none))
+    (then_read _ got.1 refl) (ap (map see_part) (got.2 ∙ ap (λ xs. xs ++ got.0 ∷ []) c.requires.none))
 
 pub add_parts-loop-turn-preserved : goal.add_parts-loop-turn-preserved
 unfolding ors
 add_parts-loop-turn-preserved t c =
+    let got = taken see_part (full_part_at c.args.tokens c.args.depth (state_of c.takes.new.self) c.takes.new.self.seen) c.part-in-loop-turn.result _ _ c.part-in-loop-turn.new.cursor c.part-in-loop-turn.ensures c.in_ok-add-2.ensures in
     list_more sx.more_parts pure (map see_part c.loop-turn.found.items) (λ (k : ℕ). ors_at c.args.tokens c.args.depth k) c.args.tokens.turns c.loop-turn._turn (some_parts_at c.args.tokens c.args.depth (state_of c.args.cursor.now) c.args.cursor.now.seen) (state_of c.loop-turn.cursor) c.loop-turn.cursor.seen c.loop-turn.invariant _ _ (state_of c.part-in-loop-turn.new.cursor) c.part-in-loop-turn.new.cursor.seen c.loop-turn-test.true
-    (saw (source c.args.tokens) is_or _ _ (state_of c.loop-turn.cursor) c.loop-turn.cursor.seen c.sees.ensures.token c.if-not-sees.false c.sees.ensures.state c.sees.ensures.seen (then_read _ c.in_ok-takes.ensures (then_read _ c.in_ok-part-2.ensures refl)))
-    (ap (map see_part) c.in_ok-add-2.ensures.added ∙ map-append see_part c.loop-turn.found.items _)
+    (saw (source c.args.tokens) is_or _ _ (state_of c.loop-turn.cursor) c.loop-turn.cursor.seen c.sees.ensures.token c.if-not-sees.false c.sees.ensures.state c.sees.ensures.seen (then_read _ c.in_ok-takes.ensures (then_read _ got.1 refl)))
+    (ap (map see_part) got.2 ∙ map-append see_part c.loop-turn.found.items _)
 
 pub add_parts-returns-then-not-sees : goal.add_parts-returns-then-not-sees
 unfolding ors
@@ -41,20 +42,20 @@ unfolding ors
 add_parts-returns t c =
     list_spent sx.more_parts pure (map see_part c.loop-turn.found.items) (λ (k : ℕ). ors_at c.args.tokens c.args.depth k) c.args.tokens.turns c.loop-turn._turn (some_parts_at c.args.tokens c.args.depth (state_of c.args.cursor.now) c.args.cursor.now.seen) (state_of c.loop-turn.cursor) c.loop-turn.cursor.seen c.loop-turn.invariant c.loop-turn-test.false refl
 
-pub add_parts-returns-in_err-part : goal.add_parts-returns-in_err-part
+pub add_parts-returns-in_err-add : goal.add_parts-returns-in_err-add
 unfolding ors
-add_parts-returns-in_err-part t c =
-    halted see_part (λ _. see_parts c.args.found.now) (full_part_at c.args.tokens c.args.depth (state_of c.args.cursor.now) c.args.cursor.now.seen)
-    _ (some_parts_at c.args.tokens c.args.depth (state_of c.args.cursor.now) c.args.cursor.now.seen) c.from_residual.result c.in_err-part.field-0.0 c.part.new.cursor c.part.new.cursor c.from_residual.ensures.1
-    (refl) c.in_err-part.ensures
+add_parts-returns-in_err-add t c =
+    halted_adding see_part (λ _. see_parts c.add.new.found) (full_part_at c.args.tokens c.args.depth (state_of c.args.cursor.now) c.args.cursor.now.seen)
+    (some_parts_at c.args.tokens c.args.depth (state_of c.args.cursor.now) c.args.cursor.now.seen) c.part.result _ _ c.from_residual.result c.in_err-add.field-0.0 c.part.new.cursor c.part.new.cursor c.from_residual.ensures.1
+    (λ k z. then_fail _ z) c.part.ensures c.in_err-add.ensures
 
-pub add_parts-returns-in_err-part-2 : goal.add_parts-returns-in_err-part-2
+pub add_parts-returns-in_err-add-2 : goal.add_parts-returns-in_err-add-2
 unfolding ors
-add_parts-returns-in_err-part-2 t c =
-    halted_by see_part (λ _. see_parts c.loop-turn.found) (full_part_at c.args.tokens c.args.depth (state_of c.takes.new.self) c.takes.new.self.seen)
-    (some_parts_at c.args.tokens c.args.depth (state_of c.args.cursor.now) c.args.cursor.now.seen) c.from_residual-in_err-part-2.result c.in_err-part-2.field-0.0 c.part-in-loop-turn.new.cursor c.part-in-loop-turn.new.cursor c.from_residual-in_err-part-2.ensures.1
+add_parts-returns-in_err-add-2 t c =
+    halted_adding see_part (λ _. see_parts c.add-in-loop-turn.new.found) (full_part_at c.args.tokens c.args.depth (state_of c.takes.new.self) c.takes.new.self.seen)
+    (some_parts_at c.args.tokens c.args.depth (state_of c.args.cursor.now) c.args.cursor.now.seen) c.part-in-loop-turn.result _ _ c.from_residual-in_err-add-2.result c.in_err-add-2.field-0.0 c.part-in-loop-turn.new.cursor c.part-in-loop-turn.new.cursor c.from_residual-in_err-add-2.ensures.1
     (λ k e. list_failed sx.more_parts pure (map see_part c.loop-turn.found.items) (λ (k : ℕ). ors_at c.args.tokens c.args.depth k) c.args.tokens.turns c.loop-turn._turn (some_parts_at c.args.tokens c.args.depth (state_of c.args.cursor.now) c.args.cursor.now.seen) (state_of c.loop-turn.cursor) c.loop-turn.cursor.seen c.loop-turn.invariant k c.loop-turn-test.true
-    (saw (source c.args.tokens) is_or _ _ (state_of c.loop-turn.cursor) c.loop-turn.cursor.seen c.sees.ensures.token c.if-not-sees.false c.sees.ensures.state c.sees.ensures.seen (then_read _ c.in_ok-takes.ensures (then_fail _ e)))) c.in_err-part-2.ensures
+    (saw (source c.args.tokens) is_or _ _ (state_of c.loop-turn.cursor) c.loop-turn.cursor.seen c.sees.ensures.token c.if-not-sees.false c.sees.ensures.state c.sees.ensures.seen (then_read _ c.in_ok-takes.ensures (then_fail _ e)))) c.part-in-loop-turn.ensures c.in_err-add-2.ensures
 
 pub add_parts-returns-in_err-takes : goal.add_parts-returns-in_err-takes
 unfolding ors
@@ -185,27 +186,29 @@ add_items-loop-turn-init t c =
 pub add_items-loop-turn-preserved-then-sees : goal.add_items-loop-turn-preserved-then-sees
 unfolding body_items
 add_items-loop-turn-preserved-then-sees t c =
+    let got = taken see_let (let_at c.args.tokens c.args.depth (state_of c.sees.new.self) c.sees.new.self.seen) c.let_of.result _ _ c.let_of.new.cursor c.let_of.ensures c.in_ok-add.ensures in
     lets_more (closed_body_at c.args.tokens c.args.depth) (map see_let c.loop-turn.found.lets.items) (map see_disj c.loop-turn.found.parts.items) (λ (k : ℕ). body_items_at c.args.tokens c.args.depth k) c.args.tokens.turns c.loop-turn._turn (closed_items_at c.args.tokens c.args.depth (state_of c.args.cursor.now) c.args.cursor.now.seen) (state_of c.loop-turn.cursor) c.loop-turn.cursor.seen c.loop-turn.invariant _ _ (state_of c.let_of.new.cursor) c.let_of.new.cursor.seen c.loop-turn-test.true
-    (saw (source c.args.tokens) is_let _ _ (state_of c.loop-turn.cursor) c.loop-turn.cursor.seen c.sees.ensures.token c.if-sees.true c.sees.ensures.state c.sees.ensures.seen (then_read _ c.in_ok-let_of.ensures refl))
-    (ap (map see_let) c.in_ok-add.ensures.added ∙ map-append see_let c.loop-turn.found.lets.items _)
+    (saw (source c.args.tokens) is_let _ _ (state_of c.loop-turn.cursor) c.loop-turn.cursor.seen c.sees.ensures.token c.if-sees.true c.sees.ensures.state c.sees.ensures.seen (then_read _ got.1 refl))
+    (ap (map see_let) got.2 ∙ map-append see_let c.loop-turn.found.lets.items _)
 
 pub add_items-loop-turn-preserved : goal.add_items-loop-turn-preserved
 unfolding body_items
 add_items-loop-turn-preserved t c =
+    let got = taken see_disj (disj_at c.args.tokens c.args.depth (state_of c.sees-in-loop-turn.new.self) c.sees-in-loop-turn.new.self.seen) c.disj.result _ _ c.disj.new.cursor c.disj.ensures c.in_ok-add-2.ensures in
     parts_more (closed_body_at c.args.tokens c.args.depth) (map see_let c.loop-turn.found.lets.items) (map see_disj c.loop-turn.found.parts.items) (λ (k : ℕ). body_items_at c.args.tokens c.args.depth k) c.args.tokens.turns c.loop-turn._turn (closed_items_at c.args.tokens c.args.depth (state_of c.args.cursor.now) c.args.cursor.now.seen) (state_of c.loop-turn.cursor) c.loop-turn.cursor.seen c.loop-turn.invariant _ _ (state_of c.disj.new.cursor) c.disj.new.cursor.seen c.loop-turn-test.true
-    (saw (source c.args.tokens) is_let _ _ (state_of c.loop-turn.cursor) c.loop-turn.cursor.seen c.sees.ensures.token c.if-sees.false c.sees.ensures.state c.sees.ensures.seen (saw (source c.args.tokens) begins_part _ _ (state_of c.sees.new.self) c.sees.new.self.seen c.sees-in-loop-turn.ensures.token c.if-not-sees.false c.sees-in-loop-turn.ensures.state c.sees-in-loop-turn.ensures.seen (then_read _ c.in_ok-disj.ensures refl)))
-    (ap (map see_disj) c.in_ok-add-2.ensures.added ∙ map-append see_disj c.loop-turn.found.parts.items _)
+    (saw (source c.args.tokens) is_let _ _ (state_of c.loop-turn.cursor) c.loop-turn.cursor.seen c.sees.ensures.token c.if-sees.false c.sees.ensures.state c.sees.ensures.seen (saw (source c.args.tokens) begins_part _ _ (state_of c.sees.new.self) c.sees.new.self.seen c.sees-in-loop-turn.ensures.token c.if-not-sees.false c.sees-in-loop-turn.ensures.state c.sees-in-loop-turn.ensures.seen (then_read _ got.1 refl)))
+    (ap (map see_disj) got.2 ∙ map-append see_disj c.loop-turn.found.parts.items _)
 
 pub add_items-returns-then-is_empty : goal.add_items-returns-then-is_empty
 unfolding body_items
 add_items-returns-then-is_empty t c =
-    let none : length c.loop-turn.found.parts.items ≡ 0 = grind (arith, c.is_empty.ensures, c.if-is_empty.true) in
+    let none : length c.loop-turn.found.parts.items ≡ 0 = none_there c.loop-turn.found.parts c.is_empty.ensures c.if-is_empty.true in
     items_ended (closed_body_at c.args.tokens c.args.depth) (map see_let c.loop-turn.found.lets.items) (map see_disj c.loop-turn.found.parts.items) (λ (k : ℕ). body_items_at c.args.tokens c.args.depth k) c.args.tokens.turns c.loop-turn._turn (closed_items_at c.args.tokens c.args.depth (state_of c.args.cursor.now) c.args.cursor.now.seen) (state_of c.loop-turn.cursor) c.loop-turn.cursor.seen c.loop-turn.invariant (state_of c.sees-in-loop-turn.new.self) c.sees-in-loop-turn.new.self.seen c.loop-turn-test.true (saw (source c.args.tokens) is_let _ _ (state_of c.loop-turn.cursor) c.loop-turn.cursor.seen c.sees.ensures.token c.if-sees.false c.sees.ensures.state c.sees.ensures.seen (saw (source c.args.tokens) begins_part _ _ (state_of c.sees.new.self) c.sees.new.self.seen c.sees-in-loop-turn.ensures.token c.if-not-sees.true c.sees-in-loop-turn.ensures.state c.sees-in-loop-turn.ensures.seen refl)) ∙ none_filled c.args.tokens c.args.depth c.loop-turn.found.lets.items c.loop-turn.found.parts.items (state_of c.sees-in-loop-turn.new.self) c.sees-in-loop-turn.new.self.seen none
 
 pub add_items-returns-then-not-sees : goal.add_items-returns-then-not-sees
 unfolding body_items
 add_items-returns-then-not-sees t c =
-    let some : length c.loop-turn.found.parts.items ≢ 0 = grind (arith, c.is_empty.ensures, c.if-is_empty.false) in
+    let some : length c.loop-turn.found.parts.items ≢ 0 = some_there c.loop-turn.found.parts c.is_empty.ensures c.if-is_empty.false in
     handed (λ _. see_items c.loop-turn.found.lets c.loop-turn.found.parts) (closed_items_at c.args.tokens c.args.depth (state_of c.args.cursor.now) c.args.cursor.now.seen) (and_then (takes (source c.args.tokens) is_rbrace (state_of c.sees-in-loop-turn.new.self) c.sees-in-loop-turn.new.self.seen) (λ _. pure (see_items c.loop-turn.found.lets c.loop-turn.found.parts))) c.takes.result c.takes.new.self
     (items_ended (closed_body_at c.args.tokens c.args.depth) (map see_let c.loop-turn.found.lets.items) (map see_disj c.loop-turn.found.parts.items) (λ (k : ℕ). body_items_at c.args.tokens c.args.depth k) c.args.tokens.turns c.loop-turn._turn (closed_items_at c.args.tokens c.args.depth (state_of c.args.cursor.now) c.args.cursor.now.seen) (state_of c.loop-turn.cursor) c.loop-turn.cursor.seen c.loop-turn.invariant (state_of c.sees-in-loop-turn.new.self) c.sees-in-loop-turn.new.self.seen c.loop-turn-test.true (saw (source c.args.tokens) is_let _ _ (state_of c.loop-turn.cursor) c.loop-turn.cursor.seen c.sees.ensures.token c.if-sees.false c.sees.ensures.state c.sees.ensures.seen (saw (source c.args.tokens) begins_part _ _ (state_of c.sees.new.self) c.sees.new.self.seen c.sees-in-loop-turn.ensures.token c.if-not-sees.true c.sees-in-loop-turn.ensures.state c.sees-in-loop-turn.ensures.seen refl)) ∙ some_filled c.args.tokens c.args.depth c.loop-turn.found.lets.items c.loop-turn.found.parts.items (state_of c.sees-in-loop-turn.new.self) c.sees-in-loop-turn.new.self.seen some)
     (closed_by (see_items c.loop-turn.found.lets c.loop-turn.found.parts) (takes (source c.args.tokens) is_rbrace (state_of c.sees-in-loop-turn.new.self) c.sees-in-loop-turn.new.self.seen) c.takes.result c.takes.new.self c.takes.ensures)
@@ -215,19 +218,19 @@ unfolding body_items
 add_items-returns t c =
     items_spent (closed_body_at c.args.tokens c.args.depth) (map see_let c.loop-turn.found.lets.items) (map see_disj c.loop-turn.found.parts.items) (λ (k : ℕ). body_items_at c.args.tokens c.args.depth k) c.args.tokens.turns c.loop-turn._turn (closed_items_at c.args.tokens c.args.depth (state_of c.args.cursor.now) c.args.cursor.now.seen) (state_of c.loop-turn.cursor) c.loop-turn.cursor.seen c.loop-turn.invariant c.loop-turn-test.false refl
 
-pub add_items-returns-in_err-let_of : goal.add_items-returns-in_err-let_of
+pub add_items-returns-in_err-add : goal.add_items-returns-in_err-add
 unfolding body_items
-add_items-returns-in_err-let_of t c =
-    halted_by see_let (λ _. see_items c.loop-turn.found.lets c.loop-turn.found.parts) (let_at c.args.tokens c.args.depth (state_of c.sees.new.self) c.sees.new.self.seen)
-    (closed_items_at c.args.tokens c.args.depth (state_of c.args.cursor.now) c.args.cursor.now.seen) c.from_residual.result c.in_err-let_of.field-0.0 c.let_of.new.cursor c.let_of.new.cursor c.from_residual.ensures.1
-    (λ k e. items_failed (closed_body_at c.args.tokens c.args.depth) (map see_let c.loop-turn.found.lets.items) (map see_disj c.loop-turn.found.parts.items) (λ (k : ℕ). body_items_at c.args.tokens c.args.depth k) c.args.tokens.turns c.loop-turn._turn (closed_items_at c.args.tokens c.args.depth (state_of c.args.cursor.now) c.args.cursor.now.seen) (state_of c.loop-turn.cursor) c.loop-turn.cursor.seen c.loop-turn.invariant k c.loop-turn-test.true (saw (source c.args.tokens) is_let _ _ (state_of c.loop-turn.cursor) c.loop-turn.cursor.seen c.sees.ensures.token c.if-sees.true c.sees.ensures.state c.sees.ensures.seen (then_fail _ e))) c.in_err-let_of.ensures
+add_items-returns-in_err-add t c =
+    halted_adding see_let (λ _. see_items c.add.new.found c.loop-turn.found.parts) (let_at c.args.tokens c.args.depth (state_of c.sees.new.self) c.sees.new.self.seen)
+    (closed_items_at c.args.tokens c.args.depth (state_of c.args.cursor.now) c.args.cursor.now.seen) c.let_of.result _ _ c.from_residual.result c.in_err-add.field-0.0 c.let_of.new.cursor c.let_of.new.cursor c.from_residual.ensures.1
+    (λ k e. items_failed (closed_body_at c.args.tokens c.args.depth) (map see_let c.loop-turn.found.lets.items) (map see_disj c.loop-turn.found.parts.items) (λ (k : ℕ). body_items_at c.args.tokens c.args.depth k) c.args.tokens.turns c.loop-turn._turn (closed_items_at c.args.tokens c.args.depth (state_of c.args.cursor.now) c.args.cursor.now.seen) (state_of c.loop-turn.cursor) c.loop-turn.cursor.seen c.loop-turn.invariant k c.loop-turn-test.true (saw (source c.args.tokens) is_let _ _ (state_of c.loop-turn.cursor) c.loop-turn.cursor.seen c.sees.ensures.token c.if-sees.true c.sees.ensures.state c.sees.ensures.seen (then_fail _ e))) c.let_of.ensures c.in_err-add.ensures
 
-pub add_items-returns-in_err-disj : goal.add_items-returns-in_err-disj
+pub add_items-returns-in_err-add-2 : goal.add_items-returns-in_err-add-2
 unfolding body_items
-add_items-returns-in_err-disj t c =
-    halted_by see_disj (λ _. see_items c.loop-turn.found.lets c.loop-turn.found.parts) (disj_at c.args.tokens c.args.depth (state_of c.sees-in-loop-turn.new.self) c.sees-in-loop-turn.new.self.seen)
-    (closed_items_at c.args.tokens c.args.depth (state_of c.args.cursor.now) c.args.cursor.now.seen) c.from_residual-in_err-disj.result c.in_err-disj.field-0.0 c.disj.new.cursor c.disj.new.cursor c.from_residual-in_err-disj.ensures.1
-    (λ k e. items_failed (closed_body_at c.args.tokens c.args.depth) (map see_let c.loop-turn.found.lets.items) (map see_disj c.loop-turn.found.parts.items) (λ (k : ℕ). body_items_at c.args.tokens c.args.depth k) c.args.tokens.turns c.loop-turn._turn (closed_items_at c.args.tokens c.args.depth (state_of c.args.cursor.now) c.args.cursor.now.seen) (state_of c.loop-turn.cursor) c.loop-turn.cursor.seen c.loop-turn.invariant k c.loop-turn-test.true (saw (source c.args.tokens) is_let _ _ (state_of c.loop-turn.cursor) c.loop-turn.cursor.seen c.sees.ensures.token c.if-sees.false c.sees.ensures.state c.sees.ensures.seen (saw (source c.args.tokens) begins_part _ _ (state_of c.sees.new.self) c.sees.new.self.seen c.sees-in-loop-turn.ensures.token c.if-not-sees.false c.sees-in-loop-turn.ensures.state c.sees-in-loop-turn.ensures.seen (then_fail _ e)))) c.in_err-disj.ensures
+add_items-returns-in_err-add-2 t c =
+    halted_adding see_disj (λ _. see_items c.loop-turn.found.lets c.add-in-loop-turn.new.found) (disj_at c.args.tokens c.args.depth (state_of c.sees-in-loop-turn.new.self) c.sees-in-loop-turn.new.self.seen)
+    (closed_items_at c.args.tokens c.args.depth (state_of c.args.cursor.now) c.args.cursor.now.seen) c.disj.result _ _ c.from_residual-in_err-add-2.result c.in_err-add-2.field-0.0 c.disj.new.cursor c.disj.new.cursor c.from_residual-in_err-add-2.ensures.1
+    (λ k e. items_failed (closed_body_at c.args.tokens c.args.depth) (map see_let c.loop-turn.found.lets.items) (map see_disj c.loop-turn.found.parts.items) (λ (k : ℕ). body_items_at c.args.tokens c.args.depth k) c.args.tokens.turns c.loop-turn._turn (closed_items_at c.args.tokens c.args.depth (state_of c.args.cursor.now) c.args.cursor.now.seen) (state_of c.loop-turn.cursor) c.loop-turn.cursor.seen c.loop-turn.invariant k c.loop-turn-test.true (saw (source c.args.tokens) is_let _ _ (state_of c.loop-turn.cursor) c.loop-turn.cursor.seen c.sees.ensures.token c.if-sees.false c.sees.ensures.state c.sees.ensures.seen (saw (source c.args.tokens) begins_part _ _ (state_of c.sees.new.self) c.sees.new.self.seen c.sees-in-loop-turn.ensures.token c.if-not-sees.false c.sees-in-loop-turn.ensures.state c.sees-in-loop-turn.ensures.seen (then_fail _ e)))) c.disj.ensures c.in_err-add-2.ensures
 
 pub guarded-returns-in_err-cond : goal.guarded-returns-in_err-cond
 unfolding guarded_part

@@ -1,7 +1,7 @@
 use Rattle.std.proofs.Common.{ℕ, ap, arith, Err}
 use Rattle.guard_parser.specs.declared.refusal.ParseRefusal.TheVariants.{NestTooDeep}
 use Rattle.literal_parser.proofs.Spans.{tokens_in}
-use Rattle.guard_parser.proofs.Opened.{one_too_deep}
+use Rattle.guard_parser.proofs.Opened.{not_both, one_too_deep}
 use Rattle.guard_parser.proofs.Count.{few_tokens}
 use Rattle.guard_parser.proofs.syntax.parse.Goals as goal
 
@@ -16,3 +16,9 @@ shapes_of-requires c = tokens_in c.args.text.now c.args.tokens.now c.requires.to
 
 pub invariant_of-tokens-clause-cut : goal.invariant_of-tokens-clause-cut
 invariant_of-tokens-clause-cut c = tokens_in c.args.text.now c.args.tokens.now c.requires.tokens
+
+pub returns-in-Err-clause-nest : goal.returns-in-Err-clause-nest
+returns-in-Err-clause-nest c = λ at deep. absurd (not_both c.args.text.now c.args.tokens.now at (c.in-None.ensures c.args.text.now) deep)
+
+pub returns-clause-nest : goal.returns-clause-nest
+returns-clause-nest c = λ at deep. absurd (not_both c.args.text.now c.args.tokens.now at (c.in-None.ensures c.args.text.now) deep)

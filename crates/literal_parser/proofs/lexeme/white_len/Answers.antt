@@ -1,7 +1,7 @@
 use Rattle.literal_parser.proofs.Texts.{front_white, front_solid}
 use Rattle.literal_parser.proofs.Cuts.{white_small}
 use Rattle.literal_parser.specs.Lexemes.{front_trimmed}
-use Rattle.std.proofs.Common.{◌≡◌, ℕ, ◌+◌, ◌-◌, ◌<◌, length, get_or, ap, sym, ◌∙◌, subst, refl, arith}
+use Rattle.std.proofs.Common.{◌≡◌, ◌+◌, ◌-◌, ◌<◌, length, get_or, ap, sym, ◌∙◌, subst, refl, arith}
 use Rattle.std.proofs.lemmas.List.{drop_all}
 use Rattle.literal_parser.proofs.lexeme.white_len.Goals as goal
 

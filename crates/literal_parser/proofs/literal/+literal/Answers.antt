@@ -3,13 +3,13 @@ use Rattle.doc_values.specs.Tree.{Nil, Node, snoc}
 use Rattle.doc_values.specs.code.Laws.{joined-Nil}
 use Rattle.doc_values.specs.Unfinished.{Unfinished}
 use Rattle.doc_values.specs.declared.kind.Kind.TheVariants as kind
-use Rattle.literal_parser.specs.Forms.{is_scalar, is_lbracket, is_rbracket, is_lbrace, is_rbrace, is_r, opens_range}
+use Rattle.literal_parser.specs.Forms.{is_comma, is_scalar, is_lbracket, is_rbracket, is_lbrace, is_rbrace, is_r, opens_range}
 use Rattle.literal_parser.specs.Literal.{holder}
 use Rattle.literal_parser.specs.code.LiteralReading.{items_of, bounded, node}
 use Rattle.literal_parser.specs.code.Parser.{takes}
 use Rattle.literal_parser.specs.code.Reads.{state_of, source}
-use Rattle.literal_parser.specs.code.LiteralReads.{Puts, with_tree, with_all, list_at, map_at, items_at, entries_at, more_items_at, more_entries_at}
-use Rattle.literal_parser.proofs.LiteralSteps.{halted_read, halted_put, saw, saw_pair, bounded_shut, bounded_open, list_failed, list_unread, list_open, list_closed, list_read, map_failed, map_unread, map_open, map_closed, map_read, held, all-one, collected, one_more_done, behind, behind-none, less_none, items_turn, items_end, items_first, entries_turn, entries_end, entries_first}
+use Rattle.literal_parser.specs.code.LiteralReads.{Puts, with_tree, with_all, list_at, map_at, items_at, entries_at, more_items_at, more_entries_at, node_at, entry_at}
+use Rattle.literal_parser.proofs.LiteralSteps.{halted_read, halted_put, level_with, level_further, level_keyed, saw, saw_pair, bounded_shut, bounded_open, list_failed, list_unread, list_open, list_closed, list_read, map_failed, map_unread, map_open, map_closed, map_read, held, all-one, collected, one_more_done, behind, behind-none, less_none, items_turn, items_end, items_untaken, items_unread, items_first, entries_turn, entries_end, entries_untaken, entries_unread, entries_first}
 use Rattle.literal_parser.proofs.literal.+literal.Goals as goal
 
 pub list-returns-then-depth-eq0-clause-reads : goal.list-returns-then-depth-eq0-clause-reads
@@ -216,3 +216,68 @@ map-returns-in_err-takes-2-clause-reads t c =
     halted_read (with_tree c.args.builder.now) (λ _. tt) (map_at c.args.tokens c.args.depth c.args.builder.now.key (state_of c.args.cursor.now) c.args.cursor.now.seen)
     (takes (source c.args.tokens) is_rbrace (state_of c.entries.new.cursor) c.entries.new.cursor.seen) c.from_residual-in_err-takes-2.result c.in_err-takes-2.field-0.0 c.entries.new.builder c.takes-2.new.self c.takes-2.new.self c.from_residual-in_err-takes-2.ensures.1
     (λ k e. map_open (source c.args.tokens) c.args.tokens.turns c.args.depth c.args.builder.now.key r.0 (state_of c.args.cursor.now) (state_of c.takes.new.self) (state_of c.entries.new.cursor) c.args.cursor.now.seen c.takes.new.self.seen c.entries.new.cursor.seen k c.if-depth-eq0.false c.in_ok-takes.ensures r.1 e) c.in_err-takes-2.ensures
+
+pub more_items-returns-in_err-takes-clause-reads : goal.more_items-returns-in_err-takes-clause-reads
+more_items-returns-in_err-takes-clause-reads t c =
+    let i = c.loop-turn.invariant in
+    let total = more_items_at c.args.tokens c.args.depth c.args.tokens.turns (state_of c.args.cursor.now) c.args.cursor.now.seen in
+    halted_read (with_all c.args.builder.now) (λ _. tt) total (takes (source c.args.tokens) is_comma (state_of c.sees.new.self) c.sees.new.self.seen)
+    c.from_residual.result c.in_err-takes.field-0.0 c.loop-turn.builder c.takes.new.self c.takes.new.self c.from_residual.ensures.1
+    (λ k e. items_untaken (source c.args.tokens) c.args.tokens.turns _ _ _ c.args.tokens.turns c.loop-turn._turn i.1.0 c.sees.result total
+    (state_of c.loop-turn.cursor) (state_of c.sees.new.self) c.loop-turn.cursor.seen c.sees.new.self.seen k
+    c.loop-turn-test.true i.1.1 c.sees.ensures.token c.if-not-sees.false c.sees.ensures.state c.sees.ensures.seen e)
+    c.in_err-takes.ensures
+
+pub more_items-returns-in_err-node-clause-reads : goal.more_items-returns-in_err-node-clause-reads
+more_items-returns-in_err-node-clause-reads t c =
+    let i = c.loop-turn.invariant in
+    let total = more_items_at c.args.tokens c.args.depth c.args.tokens.turns (state_of c.args.cursor.now) c.args.cursor.now.seen in
+    halted_put (with_all c.args.builder.now) (with_tree c.loop-turn.builder) total (node_at c.args.tokens c.args.depth c.loop-turn.builder.key (state_of c.takes.new.self) c.takes.new.self.seen)
+    c.from_residual-in_err-node.result c.in_err-node.field-0.0 c.node.new.builder c.node.new.builder c.node.new.cursor c.node.new.cursor c.from_residual-in_err-node.ensures.1
+    (λ k e. items_unread (source c.args.tokens) c.args.tokens.turns _ _ _ c.args.tokens.turns c.loop-turn._turn i.1.0 c.loop-turn.builder.key c.sees.result total
+    (state_of c.loop-turn.cursor) (state_of c.sees.new.self) (state_of c.takes.new.self) c.loop-turn.cursor.seen c.sees.new.self.seen c.takes.new.self.seen k
+    c.loop-turn-test.true i.1.1 c.sees.ensures.token c.if-not-sees.false c.sees.ensures.state c.sees.ensures.seen c.in_ok-takes.ensures i.0.1 e)
+    c.in_err-node.ensures.reads
+
+pub more_entries-returns-in_err-takes-clause-reads : goal.more_entries-returns-in_err-takes-clause-reads
+more_entries-returns-in_err-takes-clause-reads t c =
+    let i = c.loop-turn.invariant in
+    let total = more_entries_at c.args.tokens c.args.depth c.args.tokens.turns c.args.builder.now.done (state_of c.args.cursor.now) c.args.cursor.now.seen in
+    halted_read (with_all c.args.builder.now) (λ _. tt) total (takes (source c.args.tokens) is_comma (state_of c.sees.new.self) c.sees.new.self.seen)
+    c.from_residual.result c.in_err-takes.field-0.0 c.loop-turn.builder c.takes.new.self c.takes.new.self c.from_residual.ensures.1
+    (λ k e. entries_untaken (source c.args.tokens) c.args.tokens.turns _ _ _ c.args.tokens.turns c.loop-turn._turn i.1.0 c.loop-turn.builder.done c.sees.result total
+    (state_of c.loop-turn.cursor) (state_of c.sees.new.self) c.loop-turn.cursor.seen c.sees.new.self.seen k
+    c.loop-turn-test.true i.1.1 c.sees.ensures.token c.if-not-sees.false c.sees.ensures.state c.sees.ensures.seen e)
+    c.in_err-takes.ensures
+
+pub more_entries-returns-in_err-entry-clause-reads : goal.more_entries-returns-in_err-entry-clause-reads
+more_entries-returns-in_err-entry-clause-reads t c =
+    let i = c.loop-turn.invariant in
+    let total = more_entries_at c.args.tokens c.args.depth c.args.tokens.turns c.args.builder.now.done (state_of c.args.cursor.now) c.args.cursor.now.seen in
+    halted_put (with_all c.args.builder.now) (with_tree c.loop-turn.builder) total (entry_at c.args.tokens c.args.depth c.loop-turn.builder.done (state_of c.takes.new.self) c.takes.new.self.seen)
+    c.from_residual-in_err-entry.result c.in_err-entry.field-0.0 c.entry.new.builder c.entry.new.builder c.entry.new.cursor c.entry.new.cursor c.from_residual-in_err-entry.ensures.1
+    (λ k e. entries_unread (source c.args.tokens) c.args.tokens.turns _ _ _ c.args.tokens.turns c.loop-turn._turn i.1.0 c.loop-turn.builder.done c.sees.result total
+    (state_of c.loop-turn.cursor) (state_of c.sees.new.self) (state_of c.takes.new.self) c.loop-turn.cursor.seen c.sees.new.self.seen c.takes.new.self.seen k
+    c.loop-turn-test.true i.1.1 c.sees.ensures.token c.if-not-sees.false c.sees.ensures.state c.sees.ensures.seen c.in_ok-takes.ensures e)
+    c.in_err-entry.ensures.reads
+
+pub list-returns-clause-level : goal.list-returns-clause-level
+list-returns-clause-level t c =
+    let x = source c.args.tokens c.args.cursor.now.at in let r = c.in_ok-items.ensures.reads in
+    level_with c.args.builder.now c.ended.new.builder (holder kind.List c.args.builder.now.key x, r.0)
+    (held false c.from-from.result x r.0 c.args.builder.now c.begun.new.builder c.items.new.builder c.ended.new.builder c.in_ok-begun.ensures.ok r.2 c.ended.ensures c.from-from.ensures)
+
+pub map-returns-clause-level : goal.map-returns-clause-level
+map-returns-clause-level t c =
+    let x = source c.args.tokens c.args.cursor.now.at in let r = c.in_ok-entries.ensures.reads in
+    level_with c.args.builder.now c.ended.new.builder (holder kind.Map c.args.builder.now.key x, r.0)
+    (held true c.from-from.result x r.0 c.args.builder.now c.begun.new.builder c.entries.new.builder c.ended.new.builder c.in_ok-begun.ensures.ok r.2 c.ended.ensures c.from-from.ensures)
+
+pub items-returns-clause-level : goal.items-returns-clause-level
+items-returns-clause-level t c = level_further c.args.builder.now c.node.new.builder c.more_items.new.builder c.in_ok-node.ensures.level c.in_ok-more_items.ensures.level
+
+pub entries-returns-clause-level : goal.entries-returns-clause-level
+entries-returns-clause-level t c = level_further c.args.builder.now c.entry.new.builder c.more_entries.new.builder c.in_ok-entry.ensures.level c.in_ok-more_entries.ensures.level
+
+pub entry-returns-clause-level : goal.entry-returns-clause-level
+entry-returns-clause-level t c = level_keyed c.args.builder.now c.key.new.self c.node.new.builder _ c.in-Ok.ensures.ok.0 c.in_ok-node.ensures.level

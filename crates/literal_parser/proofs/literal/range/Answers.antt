@@ -4,7 +4,7 @@ use Rattle.doc_values.specs.Tree.{Nil}
 use Rattle.doc_values.specs.declared.kind.Kind.TheVariants as kind
 use Rattle.literal_parser.specs.Literal.{holder}
 use Rattle.literal_parser.specs.code.Reads.{state_of, source}
-use Rattle.literal_parser.proofs.LiteralSteps.{range_read, put_limits}
+use Rattle.literal_parser.proofs.LiteralSteps.{range_read, put_limits, range_failed, range_unread}
 use Rattle.literal_parser.proofs.literal.range.Goals as goal
 
 pub returns-in-Ok-clause-reads : goal.returns-in-Ok-clause-reads
@@ -20,3 +20,9 @@ returns-in-Ok-clause-reads c =
 
 pub returns-in-Ok-clause-level : goal.returns-in-Ok-clause-level
 returns-in-Ok-clause-level c = grind (arith, common_steps)
+
+pub returns-in_err-takes-clause-reads : goal.returns-in_err-takes-clause-reads
+returns-in_err-takes-clause-reads c = grind (arith, common_steps, range_failed, range_unread)
+
+pub returns-in_err-limits-clause-reads : goal.returns-in_err-limits-clause-reads
+returns-in_err-limits-clause-reads c = grind (arith, common_steps, range_failed, range_unread)

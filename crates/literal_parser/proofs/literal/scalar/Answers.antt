@@ -4,6 +4,7 @@ use Rattle.doc_values.specs.Tree.{Nil}
 use Rattle.literal_parser.specs.Literal.{scalar}
 use Rattle.literal_parser.specs.code.Reads.{state_of, source}
 use Rattle.literal_parser.proofs.LiteralSteps.{scalar_read, put_scalar, kind_told}
+use Rattle.literal_parser.proofs.Takes.{has_none}
 use Rattle.literal_parser.proofs.literal.scalar.Goals as goal
 
 pub returns-in-Ok-clause-reads : goal.returns-in-Ok-clause-reads
@@ -17,3 +18,6 @@ returns-in-Ok-clause-reads c =
 
 pub returns-in-Ok-clause-level : goal.returns-in-Ok-clause-level
 returns-in-Ok-clause-level c = grind (arith, common_steps)
+
+pub returns-in_err-takes-clause-reads : goal.returns-in_err-takes-clause-reads
+returns-in_err-takes-clause-reads c = grind (arith, common_steps, has_none)

@@ -1,4 +1,5 @@
 use Rattle.std.proofs.Common.{◌≡◌, ◌++◌, ◌∙◌, ◌≤◌, List, [], ap, arith, length, string_bytes}
+use Rattle.std.proofs.lemmas.Grind.{common_steps}
 use Rattle.std.proofs.lemmas.Result.{on_ok_weaker}
 use Rattle.guard_syntax.specs.declared.syntax.Let.{Let}
 use Rattle.rule_printer.specs.RuleText.{in_a_row, merged}
@@ -18,3 +19,6 @@ returns c =
     rules-left-end lets rules c.loop-at_rule.at_rule c.loop-at_rule.at_let old (string_bytes c.push_lets.new.out) start past c.loop-at_rule.invariant
     (e ∙ ap (λ (l : List Let). old ++ in_a_row (lets_from [] l c.loop-at_rule.at_let)) c.deref-2.ensures.value))
     c.push_lets.ensures
+
+pub loop-at_rule-preserved : goal.loop-at_rule-preserved
+loop-at_rule-preserved c = grind (arith, common_steps)
