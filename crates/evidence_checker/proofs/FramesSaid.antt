@@ -1,22 +1,27 @@
 -- Verdicts that are said in a frame that the line itself names.
-use Rattle.std.proofs.Common.{◌≡◌, ℕ, ◌≤◌, ◌<◌, List, [], ◌∷◌, Option, Some, None, refl, ap, sym, subst, ◌∙◌, MatchOption, length, get_or, arith}
-use Rattle.evidence_lines.specs.Lines.{line_of}
+use Rattle.std.proofs.Common.{◌≡◌, ℕ, ◌≤◌, ◌<◌, List, [], ◌∷◌, Option, Some, None, refl, sym, subst, ◌∙◌, MatchOption, length, get_or, arith}
+use Rattle.std.proofs.lemmas.Option.{none-some, same_Some}
+use Rattle.evidence_lines.specs.code.Said.{place_at}
 use Rattle.evidence_lines.specs.declared.line.Line.{Line}
 use Rattle.evidence_lines.specs.declared.line.LineKind.{LineKind}
 use Rattle.evidence_lines.specs.declared.line.LineKind.TheVariants as kind
+use Rattle.evidence_lines.specs.declared.line.LinePlace.{LinePlace}
 use Rattle.evidence_lines.specs.declared.line.Outcome.{Outcome}
 use Rattle.evidence_lines.specs.declared.line.Outcome.TheVariants as says
 use Rattle.guard_syntax.specs.declared.row.Ref.{Ref}
 use Rattle.guard_syntax.specs.declared.row.Verdict.{Verdict}
 use Rattle.evidence_rules.specs.CitedLines.{IsLine}
-use Rattle.evidence_checker.proofs.SaidOnce.{same-some}
+use Rattle.evidence_lookups.proofs.LinesPlaced.{its-frame}
 
-module _ (lines : List Line) (number : ℕ) (line : Line) (at : ℕ) (stands : Some line ≡ line_of lines number) (frame_is : line.frame ≡ Some at) where
-  -- the frame of a line is the one that it names
+-- a line that has no frame is in none
+pub frameless : (lines : List Line) (number : ℕ) (place : LinePlace) → Some place ≡ place_at lines number → place.frame ≡ None → (of : LineKind) (a site : ℕ) (o : Outcome)
+    → IsLine lines number of a site o → ⊥
+frameless lines number place stands none of a site o is = none-some a (sym none ∙ its-frame lines number place stands of a site o is)
+
+module _ (lines : List Line) (number : ℕ) (place : LinePlace) (at : ℕ) (stands : Some place ≡ place_at lines number) (frame_is : place.frame ≡ Some at) where
+  -- the frame of a line is the one that its place names
   pub named-frame : (of : LineKind) (a site : ℕ) (o : Outcome) → IsLine lines number of a site o → a ≡ at
-  named-frame of a site o is =
-      let same : is.line ≡ line = same-some (line_of lines number) is.line line is.stands (sym stands) in
-      same-some (Some at) a at (sym frame_is ∙ ap (λ (l : Line). l.frame) (sym same) ∙ is.frame_is) refl
+  named-frame of a site o is = same_Some a at (sym (its-frame lines number place stands of a site o is) ∙ frame_is)
 
   pub said-anywhere : (of : LineKind) (site : ℕ) (r : Option Verdict)
       → MatchOption r ((verdict : Verdict) → IsLine lines number of at site (says.Verdict verdict) → ⊥) (λ verdict. IsLine lines number of at site (says.Verdict verdict))

@@ -14,7 +14,7 @@ ghost use Rattle.evidence_checker.specs.code.FirstCites.{SaysRow};
 use crate::stops::{block_stop, is_stop};
 use evidence_lines::{LineKind, LineList, Outcome, Rows, Version};
 use evidence_lookups::body_frames::{ValueFrame, framed_verdict};
-use evidence_lookups::lookup::{line_of, said, verdict_in};
+use evidence_lookups::lookup::{said, verdict_said};
 use guard_syntax::{Row, Verdict};
 
 /// Whether the verdict of the body of a site, in a frame of this one, follows from the one line that is cited.
@@ -53,10 +53,14 @@ pub(crate) fn said_within(
         ((at : ℕ) → (value : Ref) → (verdict : Verdict) → IsLine lines.now at kind.Frame frame scope (says.Value value) → IsLine lines.now number kind.Conj at site (says.Verdict verdict) → ⊥)
         (λ verdict. (at : ℕ) × (value : Ref) × IsLine lines.now at kind.Frame frame scope (says.Value value) × IsLine lines.now number kind.Conj at site (says.Verdict verdict)) }
 {
-    let line = line_of(lines, number)?;
-    let at = line.frame?;
+    let Some(place) = lines.place_at(number) else {
+        return None;
+    };
+    let Some(at) = place.frame else {
+        return None;
+    };
     if is_frame_at(lines, at, frame, scope) {
-        verdict_in(&line, LineKind::Conj, site)
+        verdict_said(lines, number, LineKind::Conj, at, site)
     } else {
         None
     }

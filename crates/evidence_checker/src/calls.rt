@@ -86,8 +86,8 @@ fn call_at<'t>(context: &LineContext<'_, 't, '_>, site: u32) -> Option<Called<'t
         ((f : Function) → (args : Exprs) → IsCallAt (file_in context.entry.now) site f args → ⊥)
         (λ called. IsCallAt (file_in context.entry.now) site called.function (expr_list (map see_expr called.args.now))) }
 {
-    match context.find(site)? {
-        Piece::Expr(expr) => called_by(expr),
+    match context.find(site) {
+        Some(Piece::Expr(expr)) => called_by(expr),
         _ => None,
     }
 }

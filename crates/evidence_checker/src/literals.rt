@@ -36,8 +36,8 @@ pub(crate) fn keep_literals<'t>(
 fn literal_of<'t>(pieces: &PieceTable<'t>, site: u32) -> Option<&'t Doc<'static>>
     ensures { IfSome result (λ tree. literal_at (file_of pieces.entry.now.file.now) site ≡ Some tree.now) }
 {
-    match pieces.find(site)? {
-        Piece::Expr(expr) => tree_of(expr),
+    match pieces.find(site) {
+        Some(Piece::Expr(expr)) => tree_of(expr),
         _ => None,
     }
 }

@@ -13,7 +13,7 @@ use crate::bodies::said_within;
 use evidence_lines::{LineKind, LineList};
 use evidence_lookups::frames::called_body;
 use evidence_lookups::line_context::{LineContext, SitedLine};
-use evidence_lookups::lookup::{line_of, verdict_said};
+use evidence_lookups::lookup::verdict_said;
 use guard_syntax::Verdict;
 
 /// Whether the line of a reference follows, from the line of the rule that is named.
@@ -47,7 +47,12 @@ fn rule_said(lines: &LineList<'_>, number: u64, site: u32) -> Option<Verdict>
         ((at : ℕ) → (verdict : Verdict) → IsLine lines.now number kind.Rule at site (says.Verdict verdict) → ⊥)
         (λ verdict. (at : ℕ) × IsLine lines.now number kind.Rule at site (says.Verdict verdict)) }
 {
-    let frame = line_of(lines, number)?.frame?;
+    let Some(place) = lines.place_at(number) else {
+        return None;
+    };
+    let Some(frame) = place.frame else {
+        return None;
+    };
     verdict_said(lines, number, LineKind::Rule, frame, site)
 }
 

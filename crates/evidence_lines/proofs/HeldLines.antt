@@ -4,7 +4,9 @@ use Rattle.std.specs.Prelude.{option_and_then, All}
 use Rattle.std.proofs.lemmas.List.{drop-append-le, length-drop, map-append, take-append-le}
 use Rattle.std.proofs.lemmas.List.Elements.{All-append, All-cons, All-head, All-nil, All-tail, All-weaker}
 use Rattle.std.proofs.Math.Seq.{drop-append_seam, take-length}
+use Rattle.guard_syntax.specs.declared.row.Ref.{Ref}
 use Rattle.guard_syntax.specs.declared.row.Row.{Row}
+use Rattle.guard_syntax.specs.declared.row.Row.TheVariants.{Found}
 use Rattle.evidence_lines.specs.code.Held.{HasPlace, HasRows, HasSpan, IsCut, IsHeld, IsRun, IsWithin, cut_run, cut_span, frame_at, outcome_at, see_line, see_lines, site_at, span_at, span_in, value_in}
 use Rattle.evidence_lines.specs.code.RowsSeen.{node_row}
 use Rattle.evidence_lines.specs.declared.held.Held.{Held}
@@ -123,6 +125,13 @@ module _ (rows more : List Row) (nodes more_nodes : List ℕ) (spans more_spans 
   has-more said.Pass at is = tt
   has-more said.Fail at is = tt
   has-more said.Skip at is = tt
+
+-- a value that is held as a row
+pub value-held : (rows : List Row) (many : ℕ) (nodes : List ℕ) (spans : List Span) (span : Span) (v : Ref) → IsCut (length rows) span → cut_span rows span ≡ Found v ∷ [] → span.count ≡ 1
+    → HasRows (length rows) many spans said.Value span.start × (outcome_at rows nodes spans said.Value span.start ≡ says.Value v)
+value-held rows many nodes spans span v within cut count =
+    let one : take 1 (drop span.start rows) ≡ Found v ∷ [] = ap (λ (k : ℕ). take k (drop span.start rows)) (sym count) ∙ cut in
+    (record { spanned = tt; within = omega (arith, within, count) }, ap (λ (rs : List Row). says.Value (value_in rs)) one)
 
 -- ---- lines
 

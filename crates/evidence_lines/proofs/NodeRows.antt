@@ -1,7 +1,8 @@
 -- Rows that are values at nodes of the template are had from the nodes.
-use Rattle.std.proofs.Common.{◌≡◌, ℕ, Bool, true, false, not, List, [], ◌∷◌, ◌++◌, All, map, refl, sym, ap, ap₂}
+use Rattle.std.proofs.Common.{◌≡◌, ◌<◌, ◌+◌, ℕ, Bool, true, false, not, List, [], ◌∷◌, ◌++◌, All, get_or, length, map, take, refl, sym, ap, ap₂, ◌∙◌}
 use Rattle.std.specs.List.{flat_map, list_all}
 use Rattle.std.proofs.lemmas.Bool.{and_parts, false≢true}
+use Rattle.std.proofs.lemmas.List.{append_assoc, map_more}
 use Rattle.std.proofs.lemmas.List.Elements.{All-cons, All-head, All-nil, All-tail}
 use Rattle.guard_syntax.specs.declared.row.Origin.{Origin}
 use Rattle.guard_syntax.specs.declared.row.Origin.TheVariants.{Template, Literal, Made}
@@ -46,3 +47,10 @@ bounded-at-nodes [] all = All-nil IsRowBounded
 bounded-at-nodes (n ∷ nodes) all =
     let At : ℕ → Type 0 = λ n. IsRowBounded (node_row n) in
     All-cons IsRowBounded (node_row n) (map node_row nodes) (All-head At n nodes all) (bounded-at-nodes nodes (All-tail At n nodes all))
+
+-- one node more behind those before it
+pub nodes-more : (start now : List ℕ) (rows : List Row) (i : ℕ) (d : Row) → i < length rows → now ≡ start ++ map node_of (take i rows)
+    → now ++ node_of (get_or rows i d) ∷ [] ≡ start ++ map node_of (take (i + 1) rows)
+nodes-more start now rows i d within before =
+    let last = node_of (get_or rows i d) ∷ [] in
+    ap (λ t. t ++ last) before ∙ append_assoc start (map node_of (take i rows)) last ∙ ap (λ t. start ++ t) (sym (map_more node_of rows i d within))

@@ -120,18 +120,31 @@ fn read_node(origin: Origin, bytes: &[u8]) -> Option<Ref>
 fn read_literal(bytes: &[u8]) -> Option<Ref>
     ensures { result ≡ literal_in (cut 46 bytes.now) }
 {
-    let (site, node) = cut(bytes, b'.')?;
-    read_node(Origin::Literal(read_place(site)?), node)
+    let Some((site, node)) = cut(bytes, b'.') else {
+        return None;
+    };
+    let Some(site) = read_place(site) else {
+        return None;
+    };
+    read_node(Origin::Literal(site), node)
 }
 
 /// A value behind the sign of what a call made.
 fn read_made(bytes: &[u8]) -> Option<Ref>
     ensures { result ≡ made_in (cut 46 bytes.now) }
 {
-    let (line, rest) = cut(bytes, b'.')?;
-    let (row, node) = cut(rest, b'.')?;
-    let line = read_count(line)?;
-    let row = read_count(row)?;
+    let Some((line, rest)) = cut(bytes, b'.') else {
+        return None;
+    };
+    let Some((row, node)) = cut(rest, b'.') else {
+        return None;
+    };
+    let Some(line) = read_count(line) else {
+        return None;
+    };
+    let Some(row) = read_count(row) else {
+        return None;
+    };
     read_node(Origin::Made { line, row }, node)
 }
 
@@ -151,9 +164,15 @@ pub(crate) fn read_ref(bytes: &[u8]) -> Option<Ref>
 fn read_missing(bytes: &[u8]) -> Option<Row>
     ensures { result ≡ missing_in (cut 58 bytes.now) }
 {
-    let (step, value) = cut(bytes, b':')?;
-    let step = read_place(step)?;
-    let value = read_ref(value)?;
+    let Some((step, value)) = cut(bytes, b':') else {
+        return None;
+    };
+    let Some(step) = read_place(step) else {
+        return None;
+    };
+    let Some(value) = read_ref(value) else {
+        return None;
+    };
     Some(Row::Missing { value, step })
 }
 

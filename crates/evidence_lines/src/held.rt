@@ -170,7 +170,9 @@ impl Held {
         requires { IsHeld self.now }
         ensures { result ≡ slice_get (see_lines self.entry.now) index }
     {
-        let held = *self.lines.get(index)?;
+        let Some(held) = self.lines.get(index) else {
+            return None;
+        };
         Some(Line {
             kind: held.kind,
             frame: frame_at(&self.places, held.place, held.frame),
@@ -190,14 +192,19 @@ impl Held {
     pub(crate) fn kind(&self, index: usize) -> Option<LineKind>
         ensures { result ≡ option_map (λ l. l.kind) (slice_get (see_lines self.now) index) }
     {
-        Some(self.lines.get(index)?.kind)
+        match self.lines.get(index) {
+            Some(held) => Some(held.kind),
+            None => None,
+        }
     }
 
     /// Where the line at an index stands, and its kind.
     pub(crate) fn place(&self, index: usize) -> Option<LinePlace>
         ensures { result ≡ option_map place_of (slice_get (see_lines self.now) index) }
     {
-        let held = *self.lines.get(index)?;
+        let Some(held) = self.lines.get(index) else {
+            return None;
+        };
         Some(LinePlace {
             kind: held.kind,
             frame: frame_at(&self.places, held.place, held.frame),
@@ -210,7 +217,9 @@ impl Held {
         requires { IsHeld self.now }
         ensures { result ≡ option_map (λ l. l.outcome) (slice_get (see_lines self.entry.now) index) }
     {
-        let held = *self.lines.get(index)?;
+        let Some(held) = self.lines.get(index) else {
+            return None;
+        };
         Some(outcome_at(
             &self.rows,
             &self.nodes,
@@ -224,7 +233,10 @@ impl Held {
     pub(crate) fn verdict(&self, index: usize) -> Option<Verdict>
         ensures { result ≡ option_and_then (λ l. said_verdict l.outcome) (slice_get (see_lines self.now) index) }
     {
-        verdict_in(self.lines.get(index)?.said)
+        match self.lines.get(index) {
+            Some(held) => verdict_in(held.said),
+            None => None,
+        }
     }
 
     /// Adds a line behind the others. Where memory is wanting, what was added of it belongs to no line.
@@ -319,7 +331,10 @@ fn frame_at(places: &[Place], form: PlaceForm, frame: u32) -> Option<u64>
     match form {
         PlaceForm::None => None,
         PlaceForm::Here => Some(u64::from(frame)),
-        PlaceForm::Beside => places.get(frame as usize)?.frame,
+        PlaceForm::Beside => match places.get(frame as usize) {
+            Some(place) => place.frame,
+            None => None,
+        },
     }
 }
 
@@ -330,7 +345,10 @@ fn site_at(places: &[Place], form: PlaceForm, frame: u32, site: u32) -> Option<u
     match form {
         PlaceForm::None => None,
         PlaceForm::Here => Some(site),
-        PlaceForm::Beside => places.get(frame as usize)?.site,
+        PlaceForm::Beside => match places.get(frame as usize) {
+            Some(place) => place.site,
+            None => None,
+        },
     }
 }
 

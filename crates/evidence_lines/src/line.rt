@@ -13,7 +13,7 @@ use std::marker::Model;
 use std::slice;
 
 /// What a line is about.
-#[derive(Clone, Copy, PartialEq, Eq)]
+#[derive(Clone, Copy, PartialEq)]
 pub enum LineKind {
     /// The template's root, in the frame of the file.
     File,
@@ -286,7 +286,10 @@ impl<'a> Rows<'a> {
         match &self.form {
             RowsForm::Slice(items) => items.get(index).copied(),
             RowsForm::One(row) => slice::from_ref(row).get(index).copied(),
-            RowsForm::Nodes(nodes) => Some(node_row(*nodes.get(index)?)),
+            RowsForm::Nodes(nodes) => match nodes.get(index) {
+                Some(node) => Some(node_row(*node)),
+                None => None,
+            },
         }
     }
 

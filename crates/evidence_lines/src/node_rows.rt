@@ -86,10 +86,14 @@ fn are_at(nodes: &[u32], rows: &[Row]) -> bool
 fn shared_nodes(nodes: &[u32], spans: &[Span], runs: &[u32], rows: &[Row]) -> Option<u32>
     ensures { IfSome result (λ at. IsRun (length nodes.now) spans.now held_as.More at × (cut_run nodes.now spans.now held_as.More at ≡ map node_of rows.now)) }
 {
-    let at = *runs.get(slot_of(rows))?;
-    let span = held_span(nodes.len(), spans, at)?;
+    let Some(at) = runs.get(slot_of(rows)) else {
+        return None;
+    };
+    let Some(span) = held_span(nodes.len(), spans, *at) else {
+        return None;
+    };
     if are_at(nodes_of(nodes, span), rows) {
-        Some(at)
+        Some(*at)
     } else {
         None
     }

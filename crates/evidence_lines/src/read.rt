@@ -41,10 +41,18 @@ struct Placed {
 fn fields_of(bytes: &[u8]) -> Option<Fields<'_>>
     ensures { option_map fields_seen result ≡ parts_in bytes.entry.now }
 {
-    let (kind, rest) = cut(bytes, b' ')?;
-    let (frame, rest) = cut(rest, b' ')?;
-    let (site, rest) = cut(rest, b' ')?;
-    let (cites, outcome) = cut(rest, b' ')?;
+    let Some((kind, rest)) = cut(bytes, b' ') else {
+        return None;
+    };
+    let Some((frame, rest)) = cut(rest, b' ') else {
+        return None;
+    };
+    let Some((site, rest)) = cut(rest, b' ') else {
+        return None;
+    };
+    let Some((cites, outcome)) = cut(rest, b' ') else {
+        return None;
+    };
     Some(Fields {
         kind,
         frame,
@@ -85,9 +93,15 @@ fn read_site(placed: bool, bytes: &[u8]) -> Option<Option<u32>>
 fn read_placed(fields: &Fields<'_>) -> Option<Placed>
     ensures { option_map placed_seen result ≡ placed_in (fields_seen fields.now) }
 {
-    let kind = LineKind::named(fields.kind)?;
-    let frame = read_frame(kind.is_placed(), fields.frame)?;
-    let site = read_site(kind.is_placed(), fields.site)?;
+    let Some(kind) = LineKind::named(fields.kind) else {
+        return None;
+    };
+    let Some(frame) = read_frame(kind.is_placed(), fields.frame) else {
+        return None;
+    };
+    let Some(site) = read_site(kind.is_placed(), fields.site) else {
+        return None;
+    };
     Some(Placed { kind, frame, site })
 }
 

@@ -56,11 +56,15 @@ pub(crate) fn shared_row(held: &[Row], literals: &[u32], rows: &[Row]) -> Option
     let [row] = rows else {
         return None;
     };
-    let at = *literals.get(literal_of(row)? as usize)?;
-    if held.get(at as usize)? == row {
-        Some(at)
-    } else {
-        None
+    let Some(site) = literal_of(row) else {
+        return None;
+    };
+    let Some(at) = literals.get(site as usize) else {
+        return None;
+    };
+    match held.get(*at as usize) {
+        Some(other) if other == row => Some(*at),
+        _ => None,
     }
 }
 
@@ -111,10 +115,14 @@ pub(crate) fn shared_run(held: &[Row], spans: &[Span], runs: &[u32], rows: &[Row
     if !is_long(rows) {
         return None;
     }
-    let at = *runs.get(slot_of(rows))?;
-    let span = held_span(held.len(), spans, at)?;
+    let Some(at) = runs.get(slot_of(rows)) else {
+        return None;
+    };
+    let Some(span) = held_span(held.len(), spans, *at) else {
+        return None;
+    };
     if same_rows(rows_of(held, span), rows) {
-        Some(at)
+        Some(*at)
     } else {
         None
     }

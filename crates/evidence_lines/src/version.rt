@@ -4,7 +4,7 @@ ghost use Rattle.evidence_lines.specs.Headers.{header};
 
 /// By which rules lines follow: in version 1 a verdict rests on the lines of all its parts, in version 2 lines may stop
 /// where it is decided.
-#[derive(Clone, Copy, PartialEq, Eq)]
+#[derive(Clone, Copy, PartialEq)]
 pub enum Version {
     One,
     Two,

@@ -1,3 +1,4 @@
+pub mod LinesPlaced
 pub mod OtherKinds
 pub mod PartsSeen
 pub mod SaidKnown

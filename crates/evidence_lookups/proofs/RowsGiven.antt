@@ -1,11 +1,13 @@
 -- What gives rows: of a step, of a query, and of an argument.
 use Rattle.std.proofs.Common.{◌≡◌, ℕ, ◌-◌, List, [], ◌∷◌, length, map, Option, Some, None, refl, ap, sym, subst, ◌∙◌, arith, MatchOption}
 use Rattle.std.specs.Prelude.{slice_get, option_map}
-use Rattle.std.proofs.lemmas.Option.{none-some}
+use Rattle.std.proofs.lemmas.Option.{none-some, same_Some}
 use Rattle.evidence_lines.specs.Lines.{line_of}
+use Rattle.evidence_lines.specs.code.Said.{place_at, place_of}
 use Rattle.evidence_lines.specs.declared.line.Line.{Line}
 use Rattle.evidence_lines.specs.declared.line.LineKind.{LineKind}
 use Rattle.evidence_lines.specs.declared.line.LineKind.TheVariants as kind
+use Rattle.evidence_lines.specs.declared.line.LinePlace.{LinePlace}
 use Rattle.evidence_lines.specs.declared.line.Outcome.{Outcome}
 use Rattle.evidence_lines.specs.declared.line.Outcome.TheVariants as says
 use Rattle.guard_syntax.specs.Syntax as sx
@@ -16,10 +18,11 @@ use Rattle.rule_names.specs.Uses.{expr_in}
 use Rattle.rule_names.specs.ReferenceGraph.{step_site}
 use Rattle.evidence_rules.specs.CitedLines.{GivesArgument, GivesExpr, GivesQuery, GivesStep, IsLine, args_at, kind_of_step, last_step}
 use Rattle.rule_meaning.specs.Places.{steps_in}
+use Rattle.evidence_lookups.proofs.LinesPlaced.{placed, same-place}
 
 -- of what stands in an option
 same-some : {A : Type 0} (o : Option A) (x y : A) → o ≡ Some x → o ≡ Some y → x ≡ y
-same-some o x y is also = cc
+same-some o x y is also = same_Some x y (sym is ∙ also)
 
 pub some-given : {A : Type 0} (o : Option A) (x : A) (Gives : A → List Row → Type 0) (r : Option (List Row)) → o ≡ Some x
     → MatchOption r ((rows : List Row) → Gives x rows → ⊥) (λ rows. Gives x rows)
@@ -81,31 +84,61 @@ module _ (file : sx.File) (lines : List Line) (frame : ℕ) where
       λ rows g. never rows (subst (λ (t : sx.Step). GivesStep file lines frame t number rows) (same-step (last_step file lines steps) g.0 s g.1 last) g.2)
   query-given (sx.query n steps) s number (Some rows) last is = (s, last, is)
 
-  module _ (index number : ℕ) (line : Line) (caller site : ℕ) (args : sx.Exprs) (stands : Some line ≡ line_of lines frame) (kind_is : line.kind ≡ kind.Frame)
-      (caller_is : line.frame ≡ Some caller) (site_is : line.site ≡ Some site) (args_are : Some args ≡ args_at file site) where
-    arg-is : (rows : List Row) (g : GivesArgument file lines frame index number rows) → (caller ≡ g.caller) × (expr_in args index ≡ Some g.arg)
-    arg-is rows g = parts g.line g.caller g.site g.args g.arg g.stands g.caller_is g.site_is g.args_are g.arg_is
-      where
-        parts : (l : Line) (c s : ℕ) (es : sx.Exprs) (a : sx.Expr) → line_of lines frame ≡ Some l → l.frame ≡ Some c → l.site ≡ Some s → args_at file s ≡ Some es → expr_in es index ≡ Some a → (caller ≡ c) × (expr_in args index ≡ Some a)
-        parts l c s es a st ci si ai xi =
-            let same : line ≡ l = cc in
-            let callers : Some caller ≡ Some c = sym caller_is ∙ ap (λ (x : Line). x.frame) same ∙ ci in
-            let sites : Some site ≡ Some s = sym site_is ∙ ap (λ (x : Line). x.site) same ∙ si in
-            let same_site : site ≡ s = cc in
-            let lists : Some args ≡ Some es = args_are ∙ ap (args_at file) same_site ∙ ai in
-            let same_args : args ≡ es = cc in
-            (cc, ap (λ (x : sx.Exprs). expr_in x index) same_args ∙ xi)
+  -- no argument is given where the line of the frame, its caller, its site or the arguments there are missing
+  pub no-frame : (index number : ℕ) → None ≡ place_at lines frame → (rows : List Row) → GivesArgument file lines frame index number rows → ⊥
+  no-frame index number none rows g = none-some (place_of g.line) (none ∙ ap (option_map place_of) g.stands)
 
-    pub no-argument : None ≡ expr_in args index → (rows : List Row) → GivesArgument file lines frame index number rows → ⊥
-    no-argument none rows g = let wrong : None ≡ Some g.arg = none ∙ (arg-is rows g).1 in absurd cc
+  module _ (index number : ℕ) (place : LinePlace) (stands : Some place ≡ place_at lines frame) where
+    pub no-kind : (place.kind ≡ kind.Frame → ⊥) → (rows : List Row) → GivesArgument file lines frame index number rows → ⊥
+    no-kind other rows g = other (ap (λ (p : LinePlace). p.kind) (same-place lines frame place g.line stands g.stands) ∙ g.kind_is)
 
-    same-expr : (o : Option sx.Expr) (s t : sx.Expr) → o ≡ Some s → Some t ≡ o → s ≡ t
-    same-expr o s t is also = cc
+    caller-of : (rows : List Row) (g : GivesArgument file lines frame index number rows) → place.frame ≡ Some g.caller
+    caller-of rows g = ap (λ (p : LinePlace). p.frame) (same-place lines frame place g.line stands g.stands) ∙ g.caller_is
 
-    pub argument-given : (arg : sx.Expr) (r : Option (List Row)) → Some arg ≡ expr_in args index
-        → MatchOption r ((rows : List Row) → GivesExpr file lines caller arg number rows → ⊥) (λ rows. GivesExpr file lines caller arg number rows)
-        → MatchOption r ((rows : List Row) → GivesArgument file lines frame index number rows → ⊥) (λ rows. GivesArgument file lines frame index number rows)
-    argument-given arg None is never =
-        λ rows g. never rows (subst (λ (e : sx.Expr). GivesExpr file lines caller e number rows) (same-expr (expr_in args index) g.arg arg (arg-is rows g).1 is) (subst (λ (c : ℕ). GivesExpr file lines c g.arg number rows) (sym (arg-is rows g).0) g.gives))
-    argument-given arg (Some rows) is gives =
-        record { line = line; caller = caller; site = site; args = args; arg = arg; stands = sym stands; kind_is = kind_is; caller_is = caller_is; site_is = site_is; args_are = sym args_are; arg_is = sym is; gives = gives }
+    site-of : (rows : List Row) (g : GivesArgument file lines frame index number rows) → place.site ≡ Some g.site
+    site-of rows g = ap (λ (p : LinePlace). p.site) (same-place lines frame place g.line stands g.stands) ∙ g.site_is
+
+    pub no-caller : None ≡ place.frame → (rows : List Row) → GivesArgument file lines frame index number rows → ⊥
+    no-caller none rows g = none-some g.caller (none ∙ caller-of rows g)
+
+    pub no-site : None ≡ place.site → (rows : List Row) → GivesArgument file lines frame index number rows → ⊥
+    no-site none rows g = none-some g.site (none ∙ site-of rows g)
+
+    args-of : (site : ℕ) (rows : List Row) (g : GivesArgument file lines frame index number rows) → place.site ≡ Some site → args_at file site ≡ Some g.args
+    args-of site rows g site_is = ap (args_at file) (same_Some site g.site (sym site_is ∙ site-of rows g)) ∙ g.args_are
+
+    pub no-args : (site : ℕ) → place.site ≡ Some site → None ≡ args_at file site → (rows : List Row) → GivesArgument file lines frame index number rows → ⊥
+    no-args site site_is none rows g = none-some g.args (none ∙ args-of site rows g site_is)
+
+    module _ (caller site : ℕ) (args : sx.Exprs) (kind_is : place.kind ≡ kind.Frame) (caller_is : place.frame ≡ Some caller) (site_is : place.site ≡ Some site)
+        (args_are : Some args ≡ args_at file site) where
+      arg-of : (rows : List Row) (g : GivesArgument file lines frame index number rows) → expr_in args index ≡ Some g.arg
+      arg-of rows g = ap (λ (x : sx.Exprs). expr_in x index) (same_Some args g.args (args_are ∙ args-of site rows g site_is)) ∙ g.arg_is
+
+      pub no-argument : None ≡ expr_in args index → (rows : List Row) → GivesArgument file lines frame index number rows → ⊥
+      no-argument none rows g = none-some g.arg (none ∙ arg-of rows g)
+
+      pub argument-given : (arg : sx.Expr) (r : Option (List Row)) → Some arg ≡ expr_in args index
+          → MatchOption r ((rows : List Row) → GivesExpr file lines caller arg number rows → ⊥) (λ rows. GivesExpr file lines caller arg number rows)
+          → MatchOption r ((rows : List Row) → GivesArgument file lines frame index number rows → ⊥) (λ rows. GivesArgument file lines frame index number rows)
+      argument-given arg None is never =
+          λ rows g.
+          let exprs : g.arg ≡ arg = sym (same_Some arg g.arg (is ∙ arg-of rows g)) in
+          let callers : g.caller ≡ caller = sym (same_Some caller g.caller (sym caller_is ∙ caller-of rows g)) in
+          never rows (subst (λ (e : sx.Expr). GivesExpr file lines caller e number rows) exprs (subst (λ (c : ℕ). GivesExpr file lines c g.arg number rows) callers g.gives))
+      argument-given arg (Some rows) is gives =
+          let there = placed lines frame place stands in
+          record {
+            line = there.0;
+            caller = caller;
+            site = site;
+            args = args;
+            arg = arg;
+            stands = there.1;
+            kind_is = sym (ap (λ (p : LinePlace). p.kind) there.2) ∙ kind_is;
+            caller_is = sym (ap (λ (p : LinePlace). p.frame) there.2) ∙ caller_is;
+            site_is = sym (ap (λ (p : LinePlace). p.site) there.2) ∙ site_is;
+            args_are = sym args_are;
+            arg_is = sym is;
+            gives = gives;
+          }

@@ -3,5 +3,6 @@ pub mod FoundRows
 pub mod Grounds
 pub mod JudgedSites
 pub mod Owned
+pub mod Places
 pub mod Said
 pub mod Tables

@@ -5,7 +5,7 @@ ghost use Rattle.evidence_lines.specs.declared.line.Outcome.TheVariants as says;
 ghost use Rattle.guard_syntax.specs.declared.row.Verdict.{Verdict};
 ghost use Rattle.evidence_rules.specs.CitedLines.{IsLine};
 
-use crate::lookup::{is_frame, line_of, verdict_in};
+use crate::lookup::{is_frame, verdict_said};
 use evidence_lines::{LineKind, LineList};
 use guard_syntax::{Ref, Verdict};
 
@@ -28,10 +28,14 @@ pub fn framed_verdict(
         ((at : ℕ) → (verdict : Verdict) → IsLine lines.now at kind.Frame within.frame within.site (says.Value within.value) → IsLine lines.now number kind.Conj at site (says.Verdict verdict) → ⊥)
         (λ verdict. (at : ℕ) × IsLine lines.now at kind.Frame within.frame within.site (says.Value within.value) × IsLine lines.now number kind.Conj at site (says.Verdict verdict)) }
 {
-    let line = line_of(lines, number)?;
-    let at = line.frame?;
+    let Some(place) = lines.place_at(number) else {
+        return None;
+    };
+    let Some(at) = place.frame else {
+        return None;
+    };
     if is_frame(lines, at, within.frame, within.site, within.value) {
-        verdict_in(&line, LineKind::Conj, site)
+        verdict_said(lines, number, LineKind::Conj, at, site)
     } else {
         None
     }

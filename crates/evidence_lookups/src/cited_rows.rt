@@ -10,7 +10,7 @@ ghost use Rattle.evidence_rules.specs.CitedLines.{GivesArgument, GivesExpr, Give
 
 use crate::frames::{args_at, outwards};
 use crate::line_context::LineContext;
-use crate::lookup::{line_of, rows_said};
+use crate::lookup::rows_said;
 use evidence_lines::{LineKind, Rows};
 use guard_syntax::{Expr, Query, Step, StepForm};
 use rule_names::{Bind, Piece};
@@ -101,19 +101,22 @@ pub fn given_by_variable<'b>(
     ensures { MatchOption result ((rows : List Row) → GivesVariable (file_in context.entry.now) (lines_of context.entry.now) frame site number rows → ⊥)
         (λ rows. GivesVariable (file_in context.entry.now) (lines_of context.entry.now) frame site number rows) }
 {
-    match context.store.file.bind(site)? {
-        Bind::Value { up, site } => {
-            let at = outwards(context, up, frame)?;
-            given_by_piece(context, at, site, number)
-        }
-        Bind::Capture { up, step } => {
-            let at = outwards(context, up, frame)?;
-            rows_said(&context.lines, number, LineKind::Capture, at, step)
-        }
-        Bind::Param { up, index } => {
-            let at = outwards(context, up, frame)?;
-            given_by_argument(context, at, index, number)
-        }
+    let Some(bind) = context.store.file.bind(site) else {
+        return None;
+    };
+    match bind {
+        Bind::Value { up, site } => match outwards(context, up, frame) {
+            Some(at) => given_by_piece(context, at, site, number),
+            None => None,
+        },
+        Bind::Capture { up, step } => match outwards(context, up, frame) {
+            Some(at) => rows_said(&context.lines, number, LineKind::Capture, at, step),
+            None => None,
+        },
+        Bind::Param { up, index } => match outwards(context, up, frame) {
+            Some(at) => given_by_argument(context, at, index, number),
+            None => None,
+        },
     }
 }
 
@@ -127,9 +130,9 @@ fn given_by_piece<'b>(
     ensures { MatchOption result ((rows : List Row) → GivesPiece (file_in context.entry.now) (lines_of context.entry.now) frame (piece_at (file_in context.entry.now) site) number rows → ⊥)
         (λ rows. GivesPiece (file_in context.entry.now) (lines_of context.entry.now) frame (piece_at (file_in context.entry.now) site) number rows) }
 {
-    match context.find(site)? {
-        Piece::Expr(expr) => given_by_expr(context, frame, expr, number),
-        Piece::Query(query) => given_by_query(context, frame, query, number),
+    match context.find(site) {
+        Some(Piece::Expr(expr)) => given_by_expr(context, frame, expr, number),
+        Some(Piece::Query(query)) => given_by_query(context, frame, query, number),
         _ => None,
     }
 }
@@ -144,13 +147,22 @@ fn given_by_argument<'b>(
     ensures { MatchOption result ((rows : List Row) → GivesArgument (file_in context.entry.now) (lines_of context.entry.now) frame index number rows → ⊥)
         (λ rows. GivesArgument (file_in context.entry.now) (lines_of context.entry.now) frame index number rows) }
 {
-    let line = line_of(&context.lines, frame)?;
-    match line.kind {
+    let Some(place) = context.lines.place_at(frame) else {
+        return None;
+    };
+    match place.kind {
         LineKind::Frame => {}
         _ => return None,
     }
-    let caller = line.frame?;
-    let args = args_at(context, line.site?)?;
+    let Some(caller) = place.frame else {
+        return None;
+    };
+    let Some(site) = place.site else {
+        return None;
+    };
+    let Some(args) = args_at(context, site) else {
+        return None;
+    };
     let Some(arg) = args.get(index as usize) else {
         return None;
     };

@@ -9,7 +9,6 @@ ghost use Rattle.rule_meaning.specs.Places.{step_in, steps_in};
 ghost use Rattle.evidence_lookups.specs.code.Grounds.{file_in, known_of, lines_of};
 
 use crate::line_context::LineContext;
-use crate::lookup::line_of;
 use evidence_lines::{LineKind, LineList, LinePlace};
 use guard_syntax::{Body, Expr, Part, Query, Step, StepForm};
 use rule_names::Piece;
@@ -18,10 +17,15 @@ use rule_names::Piece;
 pub fn scope_of(context: &LineContext<'_, '_, '_>, frame: u64) -> Option<u32>
     ensures { result ≡ scope_of (file_in context.now) (lines_of context.now) frame }
 {
-    let place = context.lines.place_at(frame)?;
+    let Some(place) = context.lines.place_at(frame) else {
+        return None;
+    };
     match place.kind {
         LineKind::File => Some(0),
-        LineKind::Frame => scope_at(context, place.site?),
+        LineKind::Frame => match place.site {
+            Some(site) => scope_at(context, site),
+            None => None,
+        },
         _ => None,
     }
 }
@@ -30,10 +34,10 @@ pub fn scope_of(context: &LineContext<'_, '_, '_>, frame: u64) -> Option<u32>
 fn scope_at(context: &LineContext<'_, '_, '_>, site: u32) -> Option<u32>
     ensures { result ≡ option_and_then (scope_of_piece (file_in context.now) site) (piece_at (file_in context.now) site) }
 {
-    match context.find(site)? {
-        Piece::Body(_) => Some(site),
-        Piece::Step { query, index } => scope_of_step(site, query, index),
-        Piece::Part(part) => scope_of_part(context, site, part),
+    match context.find(site) {
+        Some(Piece::Body(_)) => Some(site),
+        Some(Piece::Step { query, index }) => scope_of_step(site, query, index),
+        Some(Piece::Part(part)) => scope_of_part(context, site, part),
         _ => None,
     }
 }
@@ -63,7 +67,10 @@ fn scope_of_part(context: &LineContext<'_, '_, '_>, site: u32, part: &Part) -> O
     ensures { result ≡ scope_of_part (file_in context.now) site (see_part part.now) }
 {
     match part {
-        Part::Call { .. } => Some(called_body(context, site)?.site),
+        Part::Call { .. } => match called_body(context, site) {
+            Some(body) => Some(body.site),
+            None => None,
+        },
         _ => None,
     }
 }
@@ -72,8 +79,11 @@ fn scope_of_part(context: &LineContext<'_, '_, '_>, site: u32, part: &Part) -> O
 pub fn called_body<'t>(context: &LineContext<'_, 't, '_>, site: u32) -> Option<&'t Body>
     ensures { option_map (λ body. see_body body.now) result ≡ called_body (file_in context.entry.now) site }
 {
-    match context.find(context.store.file.target(site)?)? {
-        Piece::Rule(rule) => Some(&rule.body),
+    let Some(target) = context.store.file.target(site) else {
+        return None;
+    };
+    match context.find(target) {
+        Some(Piece::Rule(rule)) => Some(&rule.body),
         _ => None,
     }
 }
@@ -82,8 +92,8 @@ pub fn called_body<'t>(context: &LineContext<'_, 't, '_>, site: u32) -> Option<&
 pub(crate) fn args_at<'t>(context: &LineContext<'_, 't, '_>, site: u32) -> Option<&'t [Expr]>
     ensures { option_map (λ args. expr_list (map see_expr args.now)) result ≡ args_at (file_in context.entry.now) site }
 {
-    match context.find(site)? {
-        Piece::Part(part) => args_of_part(part),
+    match context.find(site) {
+        Some(Piece::Part(part)) => args_of_part(part),
         _ => None,
     }
 }
@@ -112,7 +122,9 @@ pub fn is_file_frame(context: &LineContext<'_, '_, '_>, frame: u64) -> bool
 fn outer_frame(context: &LineContext<'_, '_, '_>, frame: u64) -> Option<u64>
     ensures { result ≡ outer_frame (file_in context.now) (lines_of context.now) frame }
 {
-    let place = context.lines.place_at(frame)?;
+    let Some(place) = context.lines.place_at(frame) else {
+        return None;
+    };
     match place.kind {
         LineKind::Frame => around_site(context, frame, place),
         _ => None,
@@ -147,15 +159,15 @@ fn file_frame(lines: &LineList<'_>, frame: u64) -> Option<u64>
     let mut at = frame;
     let mut most = lines.len();
     while most > 0 {
-        let Some(line) = line_of(lines, at) else {
+        let Some(place) = lines.place_at(at) else {
             return None;
         };
-        match line.kind {
+        match place.kind {
             LineKind::File => return Some(at),
             LineKind::Frame => {}
             _ => return None,
         }
-        let Some(further) = line.frame else {
+        let Some(further) = place.frame else {
             return None;
         };
         at = further;

@@ -1,15 +1,15 @@
 //! Lines by their numbers, their kind, frame and site.
-ghost use Rattle.std.specs.Prelude.{◌≡◌, ℕ, List, Some, MatchBool, MatchOption};
+ghost use Rattle.std.specs.Prelude.{◌≡◌, List, MatchBool, MatchOption};
 ghost use Rattle.evidence_lines.specs.Lines.{line_of};
-ghost use Rattle.evidence_lines.specs.declared.line.Line.{Line};
 ghost use Rattle.evidence_lines.specs.declared.line.LineKind.TheVariants as kind;
 ghost use Rattle.evidence_lines.specs.declared.line.Outcome.{Outcome};
 ghost use Rattle.evidence_lines.specs.declared.line.Outcome.TheVariants as says;
 ghost use Rattle.guard_syntax.specs.declared.row.Row.{Row};
 ghost use Rattle.guard_syntax.specs.declared.row.Verdict.{Verdict};
 ghost use Rattle.evidence_rules.specs.CitedLines.{IsLine, value_of};
+ghost use Rattle.evidence_lookups.specs.code.Places.{HasPlace};
 
-use evidence_lines::{Line, LineKind, LineList, Outcome, Rows};
+use evidence_lines::{Line, LineKind, LineList, LinePlace, Outcome, Rows};
 use guard_syntax::{Ref, Verdict};
 
 /// The line of a number.
@@ -30,11 +30,26 @@ pub fn said<'b>(
     ensures { MatchOption result ((outcome : Outcome) → IsLine lines.entry.now number kind frame site outcome → ⊥)
         (λ outcome. IsLine lines.entry.now number kind frame site outcome) }
 {
-    let place = lines.place_at(number)?;
-    if place.kind == kind && place.frame == Some(frame) && place.site == Some(site) {
+    let Some(place) = lines.place_at(number) else {
+        return None;
+    };
+    if is_placed(place, kind, frame, site) {
         lines.outcome_at(number)
     } else {
         None
+    }
+}
+
+/// Whether a place is of this kind, in this frame and of this site.
+fn is_placed(place: LinePlace, kind: LineKind, frame: u64, site: u32) -> bool
+    ensures { MatchBool result (HasPlace place kind frame site) (HasPlace place kind frame site → ⊥) }
+{
+    if place.kind != kind {
+        return false;
+    }
+    match (place.frame, place.site) {
+        (Some(its_frame), Some(its_site)) => its_frame == frame && its_site == site,
+        _ => false,
     }
 }
 
@@ -77,33 +92,13 @@ pub fn verdict_said(
     ensures { MatchOption result ((verdict : Verdict) → IsLine lines.now number kind frame site (says.Verdict verdict) → ⊥)
         (λ verdict. IsLine lines.now number kind frame site (says.Verdict verdict)) }
 {
-    match said(lines, number, kind, frame, site) {
-        Some(Outcome::Verdict(verdict)) => Some(verdict),
-        _ => None,
-    }
-}
-
-/// The verdict that a line which is at hand says, where it is of this kind and of this site.
-pub fn verdict_in(line: &Line<'_>, kind: LineKind, site: u32) -> Option<Verdict>
-    ensures { (lines : List Line) (number at : ℕ) → Some line.now ≡ line_of lines number → line.now.frame ≡ Some at → MatchOption result
-        ((verdict : Verdict) → IsLine lines number kind at site (says.Verdict verdict) → ⊥)
-        (λ verdict. IsLine lines number kind at site (says.Verdict verdict)) }
-{
-    if line.kind == kind && line.site == Some(site) {
-        verdict_of(&line.outcome)
+    let Some(place) = lines.place_at(number) else {
+        return None;
+    };
+    if is_placed(place, kind, frame, site) {
+        lines.verdict_at(number)
     } else {
         None
-    }
-}
-
-/// The verdict of an outcome.
-fn verdict_of(outcome: &Outcome<'_>) -> Option<Verdict>
-    ensures { MatchOption result ((verdict : Verdict) → outcome.now ≡ says.Verdict verdict → ⊥)
-        (λ verdict. outcome.now ≡ says.Verdict verdict) }
-{
-    match outcome {
-        Outcome::Verdict(verdict) => Some(*verdict),
-        Outcome::Value(_) | Outcome::Rows(_) => None,
     }
 }
 
@@ -122,8 +117,8 @@ pub(crate) fn is_frame(lines: &LineList<'_>, number: u64, frame: u64, site: u32,
 pub fn value_of(lines: &LineList<'_>, frame: u64) -> Option<Ref>
     ensures { result ≡ value_of lines.now frame }
 {
-    match lines.outcome_at(frame)? {
-        Outcome::Value(value) => Some(value),
+    match lines.outcome_at(frame) {
+        Some(Outcome::Value(value)) => Some(value),
         _ => None,
     }
 }

@@ -11,7 +11,7 @@ use rule_names::{Piece, PieceTable};
 use std::alloc::{AllocError, Global};
 
 /// Whose a body is.
-#[derive(Clone, Copy, Debug, PartialEq, Eq)]
+#[derive(Clone, Copy)]
 pub enum Owner {
     /// A rule without parameters.
     Rule,
@@ -98,9 +98,9 @@ fn mark(marks: &mut Vec<bool>, site: Option<u32>)
 fn owned_site(pieces: &PieceTable<'_>, site: u32, owner: Owner) -> Option<u32>
     ensures { result ≡ option_map body_site (owned_by owner (piece_at (file_of pieces.now.file.now) site)) }
 {
-    match pieces.find(site)? {
-        Piece::Rule(rule) => owned_by_rule(rule, owner),
-        Piece::Part(part) => owned_by_part(part, owner),
+    match pieces.find(site) {
+        Some(Piece::Rule(rule)) => owned_by_rule(rule, owner),
+        Some(Piece::Part(part)) => owned_by_part(part, owner),
         _ => None,
     }
 }

@@ -7,7 +7,7 @@ use Rattle.evidence_checker.specs.declared.calls.Called.{Called}
 use Rattle.evidence_checker.proofs.CallsFollow.{call-placed}
 use Rattle.evidence_checker.proofs.calls.call_at.Goals as goal
 
-pub returns-in-Expr : goal.returns-in-Expr
-returns-in-Expr c =
-    call-placed (file_in c.args.context.now) c.args.site (see_expr c.in-Expr.expr.now) (λ (called : Called). called.function) (λ (called : Called). expr_list (map see_expr called.args.now)) c.called_by.result
-    (sym c.in_ok-expr.ensures ∙ ap (λ (p : code.Piece). Some (see_piece p)) c.in-Expr.is) c.called_by.ensures
+pub returns-in-Some-Expr : goal.returns-in-Some-Expr
+returns-in-Some-Expr c =
+    call-placed (file_in c.args.context.now) c.args.site (see_expr c.in-Some-Expr.expr.now) (λ (called : Called). called.function) (λ (called : Called). expr_list (map see_expr called.args.now)) c.called_by.result
+    (sym c.in-Some-Expr.ensures ∙ ap (λ (p : code.Piece). Some (see_piece p)) c.in-Some-Expr.field-0-is) c.called_by.ensures

@@ -1,4 +1,6 @@
-use Rattle.std.proofs.Common.{get_or, sym}
+use Rattle.std.proofs.Common.{get_or, sym, refl}
+use denote.Enum.Bare.{sameb}
+use Rattle.guard_syntax.specs.contracts.row.Verdict.{the_type}
 use Rattle.guard_syntax.specs.code.Seen.{see_body}
 use Rattle.guard_syntax.specs.declared.syntax.Body.{out-Body}
 use Rattle.evidence_lookups.specs.code.Grounds.{known_of, lines_of}
@@ -23,7 +25,7 @@ returns-in-Some-said_within c =
     λ n name args message. call-decided known lines c.args.line.frame (get_or c.args.line.cites.now 0 0) c.args.line.cites.now c.args.verdict
     (one-cite c.args.line.cites.now c.in-len1.len_at_least c.in-len1.len_below) c.args.line.site n c.args.not name message args
     (see_body c.in-Some.body.now) (out-Body c.in-Some.body.now).site (sym c.in-Some.ensures) (sym (body-site c.in-Some.body.now))
-    c.in-Some-said_within.said c.exchanged.result c.eq.result c.in-Some-said_within.ensures c.exchanged.ensures (same-verdicts c.eq.result c.args.verdict c.exchanged.result c.eq.ensures)
+    c.in-Some-said_within.said c.exchanged.result (sameb the_type c.args.verdict c.exchanged.result) c.in-Some-said_within.ensures c.exchanged.ensures (same-verdicts (sameb the_type c.args.verdict c.exchanged.result) c.args.verdict c.exchanged.result refl)
 
 pub returns-in_default-cites : goal.returns-in_default-cites
 returns-in_default-cites c =

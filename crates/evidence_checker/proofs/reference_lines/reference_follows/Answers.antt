@@ -1,4 +1,6 @@
-use Rattle.std.proofs.Common.{get_or}
+use Rattle.std.proofs.Common.{get_or, refl}
+use denote.Enum.Bare.{sameb}
+use Rattle.guard_syntax.specs.contracts.row.Verdict.{the_type}
 use Rattle.evidence_lookups.specs.code.Grounds.{known_of, lines_of}
 use Rattle.evidence_checker.proofs.Decided.{same-verdicts}
 use Rattle.evidence_checker.proofs.FramesSaid.{one-cite}
@@ -18,4 +20,4 @@ returns-in-Some-rule_said c =
     let lines = lines_of c.args.context.now in
     λ n name message. refer-decided known lines 0 (get_or c.args.line.cites.now 0 0) c.args.line.cites.now c.args.verdict
     (one-cite c.args.line.cites.now c.in-len1.len_at_least c.in-len1.len_below) c.args.line.site n c.args.not name message c.in-Some.rule c.in-Some.ensures
-    c.in-Some-rule_said.said c.referred.result c.eq.result c.in-Some-rule_said.ensures c.referred.ensures (same-verdicts c.eq.result c.args.verdict c.referred.result c.eq.ensures)
+    c.in-Some-rule_said.said c.referred.result (sameb the_type c.args.verdict c.referred.result) c.in-Some-rule_said.ensures c.referred.ensures (same-verdicts (sameb the_type c.args.verdict c.referred.result) c.args.verdict c.referred.result refl)

@@ -7,8 +7,8 @@ use Rattle.evidence_rules.specs.CitedLines.{scope_of_piece}
 use Rattle.evidence_lookups.specs.code.Grounds.{file_in}
 use Rattle.evidence_lookups.proofs.frames.scope_at.Goals as goal
 
-pub returns-in-Step : goal.returns-in-Step
-returns-in-Step c =
+pub returns-in-Some-Step : goal.returns-in-Some-Step
+returns-in-Some-Step c =
     let f = file_in c.args.context.now in
     c.scope_of_step.ensures f
-    ∙ ap (λ (o : Option Piece). option_and_then (scope_of_piece f c.args.site) o) (ap (λ (p : code.Piece). Some (see_piece p)) (sym c.in-Step.is) ∙ c.in_ok-find.ensures)
+    ∙ ap (λ (o : Option Piece). option_and_then (scope_of_piece f c.args.site) o) (ap (λ (p : code.Piece). Some (see_piece p)) (sym c.in-Some-Step.field-0-is) ∙ c.in-Some-Step.ensures)

@@ -1,4 +1,5 @@
 use Rattle.std.proofs.Common.{◌≡◌, ℕ, ◌+◌, ◌-◌, ◌^◌, suc, length, min, arith}
+use Rattle.std.proofs.lemmas.Grind.{common_steps}
 use Rattle.evidence_truth.specs.code.LineFails.{line_fails}
 use Rattle.evidence_report.specs.code.Counts.{counted}
 use Rattle.evidence_report.specs.code.Leads.{entries_behind, see_lead}
@@ -17,3 +18,6 @@ loop-lead-preserved c =
           (c.count_lead.ensures known lines are (below-lead known lines (suc (length c.args.counts.now)) c.args.leads.now c.loop-lead.lead-index past_lead c.loop-lead-test.true below)) more
           (c.loop-lead.invariant.owes known lines are below);
     }
+
+pub returns : goal.returns
+returns c = grind (arith, common_steps)

@@ -1,5 +1,6 @@
 use Rattle.std.proofs.Common.{◌≡◌, List, ap, map, subst, sym, ◌∙◌}
 use Rattle.std.proofs.lemmas.Result.{IfOk-weaker}
+use Rattle.guard_syntax.specs.code.Seen.{see_file}
 use Rattle.evidence_lookups.specs.code.Grounds.{known_of, lines_of}
 use Rattle.evidence_rules.specs.Follows.{nothing_made}
 use Rattle.rule_meaning.specs.Seeing.{world_of}
@@ -28,3 +29,6 @@ returns c answers obey =
     let lines = lines_of c.args.context.now in
     IfOk-weaker c.count_entries.result (λ n. n ≡ fail_count (map (see_verdict known lines) c.deref.result.now)) (λ n. n ≡ fail_count (reported (world_of known answers)))
     (λ n is. is ∙ ap (λ (vs : List VerdictLine). fail_count (map (see_verdict known lines) vs)) c.deref.ensures.value ∙ ap fail_count (c.in_ok-all.ensures.verdicts answers obey)) c.count_entries.ensures
+
+pub verdict_lines-requires-clause-file : goal.verdict_lines-requires-clause-file
+verdict_lines-requires-clause-file c = ap see_file (sym c.raw.ensures)

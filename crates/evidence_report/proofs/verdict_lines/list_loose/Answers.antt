@@ -41,3 +41,6 @@ returns-clause-verdicts c answers obey =
     (c.requires.parts ∙ some.2) refl (λ v said. c.rules_told.ensures.loose version known lines answers v file.sites file.named held obey said) in
     subst (λ (more : List Reported). OnOk c.list_line.result (Lists known lines c.args.into.now.items c.list_line.new.into.items more)) is
     (c.list_line.ensures.verdict known lines x.0 x.1)
+
+pub returns-clause-said : goal.returns-clause-said
+returns-clause-said c = c.list_line.ensures.said (lines_of c.args.context.now) c.requires.table

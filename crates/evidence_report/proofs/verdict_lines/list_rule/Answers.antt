@@ -45,3 +45,6 @@ returns-clause-verdicts c answers obey =
     subst (λ (more : List Reported). OnOk c.list_line.result (Lists known lines c.args.into.now.items c.list_line.new.into.items more)) is
     (subst (λ (name : List ℕ). OnOk c.list_line.result (Lists known lines c.args.into.now.items c.list_line.new.into.items (reported_by known lines name x.0 ∷ []))) c.as_str.ensures
     (c.list_line.ensures.verdict known lines x.0 x.1))
+
+pub returns-clause-said : goal.returns-clause-said
+returns-clause-said c = c.list_line.ensures.said (lines_of c.args.context.now) c.requires.table

@@ -4,8 +4,15 @@ use Rattle.evidence_lines.specs.code.Held.{see_line, see_lines}
 use Rattle.evidence_lines.specs.declared.held.Held.{Held}
 use Rattle.evidence_lines.specs.declared.held.HeldLine.{HeldLine}
 use Rattle.evidence_lines.specs.declared.line.Line.{Line}
-use Rattle.evidence_lines.proofs.HeldLines.{added-held, added-line, kept-lines, line-as, on-err}
+use Rattle.evidence_lines.proofs.HeldLines.{added-held, added-line, kept-held, kept-lines, line-as, on-err}
 use Rattle.evidence_lines.proofs.held.Held.push.Goals as goal
+
+pub returns-in_err-cites-clause-held : goal.returns-in_err-cites-clause-held
+returns-in_err-cites-clause-held c =
+    let a = c.args.self.now in
+    let b : Held = record { lines = a.lines; cites = c.hold_cites.new.into; cite_spans = c.hold_cites.new.spans; rows = a.rows; nodes = a.nodes; row_spans = a.row_spans; places = a.places; remembered = a.remembered } in
+    kept-held a b c.hold_cites.ensures.more.0 c.hold_cites.ensures.spans.0 [] [] [] [] c.hold_cites.ensures.more.1 c.hold_cites.ensures.spans.1 (sym (append-nil a.rows.items)) (sym (append-nil a.nodes.items)) (sym (append-nil a.row_spans.items))
+    (sym (append-nil a.places.items)) c.requires refl
 
 pub returns-in_err-cites-clause-kept : goal.returns-in_err-cites-clause-kept
 returns-in_err-cites-clause-kept c =
@@ -15,6 +22,13 @@ returns-in_err-cites-clause-kept c =
     (kept-lines a b c.hold_cites.ensures.more.0 c.hold_cites.ensures.spans.0 [] [] [] [] c.hold_cites.ensures.more.1 c.hold_cites.ensures.spans.1 (sym (append-nil a.rows.items)) (sym (append-nil a.nodes.items)) (sym (append-nil a.row_spans.items))
     (sym (append-nil a.places.items)) c.requires refl)
 
+pub returns-in_err-said-clause-held : goal.returns-in_err-said-clause-held
+returns-in_err-said-clause-held c =
+    let a = c.args.self.now in
+    let b : Held = record { lines = a.lines; cites = c.hold_cites.new.into; cite_spans = c.hold_cites.new.spans; rows = c.hold_outcome.new.into; nodes = c.hold_outcome.new.nodes; row_spans = c.hold_outcome.new.spans; places = a.places; remembered = c.hold_outcome.new.remembered } in
+    kept-held a b c.hold_cites.ensures.more.0 c.hold_cites.ensures.spans.0 c.hold_outcome.ensures.more.0 c.hold_outcome.ensures.nodes.0 c.hold_outcome.ensures.spans.0 [] c.hold_cites.ensures.more.1 c.hold_cites.ensures.spans.1
+    c.hold_outcome.ensures.more.1 c.hold_outcome.ensures.nodes.1 c.hold_outcome.ensures.spans.1 (sym (append-nil a.places.items)) c.requires refl
+
 pub returns-in_err-said-clause-kept : goal.returns-in_err-said-clause-kept
 returns-in_err-said-clause-kept c =
     let a = c.args.self.now in
@@ -23,6 +37,13 @@ returns-in_err-said-clause-kept c =
     (kept-lines a b c.hold_cites.ensures.more.0 c.hold_cites.ensures.spans.0 c.hold_outcome.ensures.more.0 c.hold_outcome.ensures.nodes.0 c.hold_outcome.ensures.spans.0 [] c.hold_cites.ensures.more.1 c.hold_cites.ensures.spans.1
     c.hold_outcome.ensures.more.1 c.hold_outcome.ensures.nodes.1 c.hold_outcome.ensures.spans.1 (sym (append-nil a.places.items)) c.requires refl)
 
+pub returns-in_err-place-clause-held : goal.returns-in_err-place-clause-held
+returns-in_err-place-clause-held c =
+    let a = c.args.self.now in
+    let b : Held = record { lines = a.lines; cites = c.hold_cites.new.into; cite_spans = c.hold_cites.new.spans; rows = c.hold_outcome.new.into; nodes = c.hold_outcome.new.nodes; row_spans = c.hold_outcome.new.spans; places = c.hold_place.new.into; remembered = c.hold_outcome.new.remembered } in
+    kept-held a b c.hold_cites.ensures.more.0 c.hold_cites.ensures.spans.0 c.hold_outcome.ensures.more.0 c.hold_outcome.ensures.nodes.0 c.hold_outcome.ensures.spans.0 c.hold_place.ensures.more.0 c.hold_cites.ensures.more.1
+    c.hold_cites.ensures.spans.1 c.hold_outcome.ensures.more.1 c.hold_outcome.ensures.nodes.1 c.hold_outcome.ensures.spans.1 c.hold_place.ensures.more.1 c.requires refl
+
 pub returns-in_err-place-clause-kept : goal.returns-in_err-place-clause-kept
 returns-in_err-place-clause-kept c =
     let a = c.args.self.now in
@@ -30,6 +51,13 @@ returns-in_err-place-clause-kept c =
     on-err c.from_residual-in_err-place.result (see_lines b ≡ see_lines a)
     (kept-lines a b c.hold_cites.ensures.more.0 c.hold_cites.ensures.spans.0 c.hold_outcome.ensures.more.0 c.hold_outcome.ensures.nodes.0 c.hold_outcome.ensures.spans.0 c.hold_place.ensures.more.0 c.hold_cites.ensures.more.1
     c.hold_cites.ensures.spans.1 c.hold_outcome.ensures.more.1 c.hold_outcome.ensures.nodes.1 c.hold_outcome.ensures.spans.1 c.hold_place.ensures.more.1 c.requires refl)
+
+pub returns-in_err-push-clause-held : goal.returns-in_err-push-clause-held
+returns-in_err-push-clause-held c =
+    let a = c.args.self.now in
+    let b : Held = record { lines = c.push.new.self; cites = c.hold_cites.new.into; cite_spans = c.hold_cites.new.spans; rows = c.hold_outcome.new.into; nodes = c.hold_outcome.new.nodes; row_spans = c.hold_outcome.new.spans; places = c.hold_place.new.into; remembered = c.hold_outcome.new.remembered } in
+    kept-held a b c.hold_cites.ensures.more.0 c.hold_cites.ensures.spans.0 c.hold_outcome.ensures.more.0 c.hold_outcome.ensures.nodes.0 c.hold_outcome.ensures.spans.0 c.hold_place.ensures.more.0 c.hold_cites.ensures.more.1
+    c.hold_cites.ensures.spans.1 c.hold_outcome.ensures.more.1 c.hold_outcome.ensures.nodes.1 c.hold_outcome.ensures.spans.1 c.hold_place.ensures.more.1 c.requires c.in_err-push.ensures.items
 
 pub returns-in_err-push-clause-kept : goal.returns-in_err-push-clause-kept
 returns-in_err-push-clause-kept c =
