@@ -5,7 +5,7 @@ ghost use Rattle.guard_ends.specs.End.{status_of};
 use guard_syntax::Text;
 
 /// What is the matter at a place of a file.
-#[derive(Clone, Copy, Debug, PartialEq, Eq)]
+#[derive(Clone, Copy)]
 pub enum RefusalKind {
     /// In rules, a text, pattern or note without its end, at its opening quote, slash or `<<`.
     Unclosed,
@@ -69,7 +69,7 @@ pub enum RefusalKind {
 }
 
 /// Why a file is refused.
-#[derive(Debug, Drop)]
+#[derive(Drop)]
 pub enum Refusal {
     /// The file has more bytes than it may have: rules 1 MiB, a template, parameters and tests 8 MiB, evidence 256 MiB.
     TooLong(Which),
@@ -91,7 +91,7 @@ pub enum Refusal {
 }
 
 /// One of the files that are asked for.
-#[derive(Clone, Copy, Debug, PartialEq, Eq)]
+#[derive(Clone, Copy)]
 pub enum Which {
     Rules,
     Template,
@@ -104,14 +104,14 @@ pub enum Which {
 }
 
 /// One of the sinks.
-#[derive(Clone, Copy, Debug, PartialEq, Eq)]
+#[derive(Clone, Copy)]
 pub enum Pipe {
     Out,
     Err,
 }
 
 /// How a call ended.
-#[derive(Debug, Drop)]
+#[derive(Drop)]
 pub enum End {
     /// No rule is FAIL; each verdict is as the tests expect it; or rules were written, generated or as they are read.
     Passed,

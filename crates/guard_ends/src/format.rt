@@ -3,7 +3,7 @@ ghost use Rattle.std.specs.Prelude.{◌≡◌};
 ghost use Rattle.guard_ends.specs.Inputs.{format_of};
 
 /// How the text of a template, of parameters or of tests is written.
-#[derive(Clone, Copy, Debug, PartialEq, Eq)]
+#[derive(Clone, Copy)]
 pub enum Format {
     Json,
     Yaml,

@@ -2,6 +2,7 @@ mod Accepted
 mod Closing
 mod Joinings
 mod Loads
+mod NotMerged
 mod Outcomes
 mod PrintedLines
 mod Plainness

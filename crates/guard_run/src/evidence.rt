@@ -2,6 +2,12 @@
 ghost use Rattle.std.specs.Prelude.{◌≡◌, All, IfOk, if◌then◌else◌};
 ghost use Rattle.evidence_lines.specs.Shapes.{HasShape};
 ghost use Rattle.evidence_lines.specs.Text.{IsEvidence};
+ghost use Rattle.evidence_lines.specs.declared.version.Version.TheVariants.{Two};
+ghost use Rattle.rule_names.specs.code.Files.{file_of};
+ghost use Rattle.value_compare.specs.code.Stores.{see_store};
+ghost use Rattle.evidence_rules.specs.Follows.{Accepts};
+ghost use Rattle.evidence_rules.specs.Lean.{IsLean};
+ghost use Rattle.rule_calls.specs.code.Ends.{AreOfEngine};
 ghost use Rattle.guard_ends.specs.Order.{Ending, IsJudgedBy};
 ghost use Rattle.guard_ends.specs.Report.{report};
 ghost use Rattle.guard_run.specs.code.Inputs.{inputs_of};
@@ -16,17 +22,33 @@ use crate::written::Written;
 use evidence_lines::{Evidence, print_line};
 use guard_ends::End;
 use query_steps::one_answer_over_locations;
-use rule_calls::evaluate;
+use rule_calls::{Evaluation, evaluate};
 use std::alloc::{AllocError, Global};
 
 /// Judges inputs, and gives the evidence and the report.
 pub(crate) fn report_with_evidence(alloc: Global, ready: &Ready<'_, '_>) -> Result<Done, Stop>
     ensures { IsOutcomeAt (Ending (IsJudgedBy report (inputs_of ready.now.inputs.now))) result }
 {
-    one_answer_over_locations();
     let inputs = ready.inputs;
     let evaluation = evaluate(alloc, inputs.rules, &inputs.tree, &ready.book)?;
-    let judgement = judgement_of(alloc, ready, &evaluation, Form::Entries)?;
+    evidence_with_report(alloc, ready, &evaluation)
+}
+
+/// The evidence and the report, by the evaluation of the rules.
+fn evidence_with_report(
+    alloc: Global,
+    ready: &Ready<'_, '_>,
+    evaluation: &Evaluation<'_, '_>,
+) -> Result<Done, Stop>
+    requires accepted { Accepts Two ready.now.inputs.now.tree (file_of ready.now.inputs.now.rules.now) evaluation.now.evidence.lines }
+    requires lean { IsLean evaluation.now.evidence.lines }
+    requires template { (see_store evaluation.now.store).template ≡ ready.now.inputs.now.tree }
+    requires file { (see_store evaluation.now.store).file ≡ file_of ready.now.inputs.now.rules.now }
+    requires whole { AreOfEngine (see_store evaluation.now.store) evaluation.now.evidence.lines }
+    ensures { IsOutcomeAt (Ending (IsJudgedBy report (inputs_of ready.now.inputs.now))) result }
+{
+    one_answer_over_locations();
+    let judgement = judgement_of(alloc, ready, evaluation, Form::Entries)?;
     let evidence = evidence_text(alloc, &evaluation.evidence)?;
     Ok(done_with(judgement, evidence))
 }

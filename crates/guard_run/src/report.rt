@@ -30,7 +30,7 @@ use rule_calls::{Evaluation, evaluate, judged_lines, line_context};
 use std::alloc::{AllocError, Global};
 
 /// What a report shows of what rules fail by.
-#[derive(Clone, Copy, Debug)]
+#[derive(Clone, Copy)]
 pub(crate) enum Form {
     /// A line for each entry, under the line of its verdict.
     Entries,
@@ -39,7 +39,7 @@ pub(crate) enum Form {
 }
 
 /// Inputs that were judged.
-#[derive(Debug, Drop)]
+#[derive(Drop)]
 pub(crate) struct Judgement {
     /// Whether a reported verdict is FAIL.
     pub failed: bool,

@@ -1,9 +1,9 @@
 //! `rulegen`: a template is loaded and read, and out takes the rules that are generated of it.
-ghost use Rattle.std.specs.Prelude.{◌≡◌, ◌≤◌, ℕ, List, MatchResult, string_bytes};
+ghost use Rattle.std.specs.Prelude.{◌≡◌, ◌≤◌, ℕ, List, string_bytes};
 ghost use Rattle.guard_ends.specs.Inputs.{AreGenerated, RefusesGenerated};
-ghost use Rattle.guard_ends.specs.Order.{Generating, OfTemplate};
+ghost use Rattle.guard_ends.specs.Order.{Ending, Generating, OfTemplate, Reading, written};
 ghost use Rattle.guard_run.specs.code.Outcome.{IsOutcome, IsOutcomeAt};
-ghost use Rattle.guard_run.specs.code.Stops.{IsNotRead, NoneRose, Rose};
+ghost use Rattle.guard_run.specs.code.Stops.{NoneRose, Rose};
 
 use crate::done::Done;
 use crate::inputs::DataText;
@@ -42,17 +42,16 @@ fn generate_of(alloc: Global, template: &DataText) -> Result<Done, Stop>
         template.format,
         template.text.as_str(),
     )?;
-    let text = rules_of_tree(alloc, &tree)?;
-    Ok(passed(text))
+    write_generated(alloc, &tree)
 }
 
-/// The text of the rules that are generated of a tree.
-fn rules_of_tree(alloc: Global, tree: &Doc<'_>) -> Result<String, Stop>
-    ensures { (bytes : List ℕ) → MatchResult result (λ text. AreGenerated tree.now (string_bytes text))
-        (IsNotRead (λ _. RefusesGenerated tree.now) bytes) }
+/// Generates rules of a tree, and writes their text.
+fn write_generated(alloc: Global, tree: &Doc<'_>) -> Result<Done, Stop>
+    ensures { (bytes : List ℕ) → IsOutcomeAt (Reading (λ _. RefusesGenerated tree.now) (λ _. AreGenerated tree.now) bytes
+        (λ text. Ending (λ e. e ≡ written text))) result }
 {
     match generate(alloc, tree) {
-        Ok(text) => Ok(text),
+        Ok(text) => Ok(passed(text)),
         Err(GenerateRefusal::TooLong) => Err(Stop::Refused(text_too_long())),
         Err(GenerateRefusal::NoMemory) => Err(Stop::Memory),
     }

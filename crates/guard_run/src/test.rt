@@ -6,9 +6,9 @@ ghost use Rattle.guard_testfile.specs.Texts.{Difference, is_wrong};
 ghost use Rattle.guard_testfile.specs.code.Seen.{see_case};
 ghost use Rattle.rule_meaning.specs.FunctionMeaning.{IsAnswering};
 ghost use Rattle.rule_meaning.specs.Locations.{Answers};
-ghost use Rattle.guard_ends.specs.Order.{IsTested, OfTests, how_tested};
+ghost use Rattle.guard_ends.specs.Order.{Ending, IsTested, OfTests, how_tested};
 ghost use Rattle.guard_ends.specs.Reported.{verdicts_of, world_over};
-ghost use Rattle.guard_run.specs.code.Outcome.{IsOutcome, IsOutcomeBy, ended};
+ghost use Rattle.guard_run.specs.code.Outcome.{IsOutcome, IsOutcomeAt, IsOutcomeBy};
 ghost use Rattle.guard_run.specs.code.Refusals.{bytes_of};
 ghost use Rattle.guard_run.specs.code.Stops.{NoneRose, Rose};
 ghost use Rattle.guard_run.specs.code.Tested.{AreSaid, IsSaid, Testing, TestingSources, cases_of, rules_of};
@@ -82,20 +82,19 @@ fn judge_tests<M: PatternMaker>(
     let rules = tests.rules;
     let book = make_patterns(alloc, &rules.file, rules.text.as_str(), maker)?;
     let ready = ReadyTests { tests, book };
-    let done = say_tests(alloc, &ready)?;
-    Ok(done)
+    say_tests(alloc, &ready)
 }
 
 /// Judges all cases. What is said of them ends with how many there are, and how many of them are wrong.
-fn say_tests(alloc: Global, ready: &ReadyTests<'_, '_>) -> Result<Done, AllocError>
-    ensures { IfOk result (λ done. IsTested (rules_of ready.now.tests.now) ready.now.tests.now.tree (cases_of ready.now.tests.now) (ended done)) }
+fn say_tests(alloc: Global, ready: &ReadyTests<'_, '_>) -> Result<Done, Stop>
+    ensures { IsOutcomeAt (Ending (IsTested (rules_of ready.now.tests.now) ready.now.tests.now.tree (cases_of ready.now.tests.now))) result }
 {
     let Said { mut text, wrong } = say_cases(alloc, ready)?;
     match write_summary(alloc, ready.tests.cases.len() as u64, wrong, &mut text) {
         Ok(()) => Ok(done_by(text.bytes, wrong)),
         // The sink in memory has no faults.
         Err(ReportFault::Failed) => unreachable!(),
-        Err(ReportFault::Memory) => Err(AllocError),
+        Err(ReportFault::Memory) => Err(Stop::Memory),
     }
 }
 

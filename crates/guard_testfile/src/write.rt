@@ -107,8 +107,7 @@ fn text_of(
     ensures { IfOk result (λ text. text.items ≡ codes "case " ++ decimal number ++ codes " " ++ agreement_word agreement ++ codes "\n" ++ lines.now) }
 {
     let word = agreement_word(agreement);
-    let mut text = Vec::new(alloc);
-    text.extend_from_slice(format!(in alloc; "case {number} {word}\n")?.as_bytes())?;
+    let mut text = format!(in alloc; "case {number} {word}\n")?.into_bytes();
     text.extend_from_slice(lines)?;
     Ok(text)
 }

@@ -44,24 +44,18 @@ fn write(
     Ok(write_entry(alloc, &texts, &store, &CALL, sink))
 }
 
-/// The room of a sink, and what comes of it: what it takes, and how many faults it counts.
-#[derive(Clone, Copy)]
-struct Wanted<'a> {
-    room: usize,
-    taken: &'a [u8],
-    faults: u64,
-}
-
-/// Whether a sink takes so much of the line over a text. It fails exactly where it counts a fault.
+/// Whether a sink of this room takes so much of the line over a text. It fails, and counts one fault, exactly where it has not
+/// taken the end of the line.
 fn is_written(
     alloc: Global,
     file: &RuleFile,
     text: &str,
-    wanted: &Wanted<'_>,
+    room: usize,
+    taken: &[u8],
 ) -> Result<bool, AllocError> {
     let mut sink = MemSink {
         bytes: Vec::new(alloc),
-        room: wanted.room as u64,
+        room: room as u64,
         faults: 0,
     };
     let faults: u64 = match write(alloc, file, text, &mut sink)? {
@@ -69,12 +63,12 @@ fn is_written(
         Err(ReportFault::Failed) => 1,
         Err(ReportFault::Memory) => return Err(AllocError),
     };
-    Ok(
-        faults == wanted.faults
-            && sink.faults == wanted.faults
-            && sink.bytes.as_slice() == wanted.taken,
-    )
+    let wanted = if taken.ends_with(b"\n") { 0 } else { 1 };
+    Ok(faults == wanted && sink.faults == wanted && sink.bytes.as_slice() == taken)
 }
+
+/// Room for each line.
+const ROOM: usize = 100;
 
 /// Texts with the line over each: the line and the column of its byte 6, or of its end where that is past it.
 const LINES: &[(&str, &[u8])] = &[
@@ -94,20 +88,10 @@ const LINES: &[(&str, &[u8])] = &[
     ("abcd\r\nx", b"  call 2:1 missing by 2:1\n"),
 ];
 
-/// Whether this is the line over a text.
-fn is_line(alloc: Global, file: &RuleFile, text: &str, taken: &[u8]) -> Result<bool, AllocError> {
-    let wanted = Wanted {
-        room: 100,
-        taken,
-        faults: 0,
-    };
-    is_written(alloc, file, text, &wanted)
-}
-
 /// The first text over which another line is written.
 fn first_wrong(alloc: Global, file: &RuleFile) -> Result<Option<&'static str>, AllocError> {
     for (text, taken) in LINES {
-        if !is_line(alloc, file, *text, *taken)? {
+        if !is_written(alloc, file, *text, ROOM, *taken)? {
             return Ok(Some(*text));
         }
     }
@@ -124,20 +108,10 @@ fn places_are_found_by_lines(rt: HostRuntime) -> Result<(), Fail> {
 /// The line over the rules.
 const LINE: &[u8] = b"  call 1:7 missing by 1:7\n";
 
-/// Whether a sink of this room takes as much of the line.
-fn is_cut(alloc: Global, file: &RuleFile, room: usize) -> Result<bool, AllocError> {
-    let wanted = Wanted {
-        room,
-        taken: LINE.get(..room).unwrap_or(LINE),
-        faults: if room < LINE.len() { 1 } else { 0 },
-    };
-    is_written(alloc, file, RULES, &wanted)
-}
-
 /// The first room with which a sink takes more or less.
 fn first_wrong_room(alloc: Global, file: &RuleFile) -> Result<Option<usize>, AllocError> {
     for room in 0..LINE.len() + 1 {
-        if !is_cut(alloc, file, room)? {
+        if !is_written(alloc, file, RULES, room, &LINE[..room])? {
             return Ok(Some(room));
         }
     }
@@ -192,19 +166,6 @@ fn line_of_value(alloc: Global, store: &Store<'_, '_>, value: Ref) -> Result<Vec
     }
 }
 
-/// The line of the value of a number.
-fn line_of_node(alloc: Global, store: &Store<'_, '_>, node: u32) -> Result<Vec<u8>, AllocError> {
-    let value = Ref {
-        origin: Origin::Template,
-        node,
-        key: false,
-    };
-    match store.view(value) {
-        Some(_) => line_of_value(alloc, store, value),
-        None => Err(AllocError),
-    }
-}
-
 /// Whether this is the line of the value of a number.
 fn is_line_of(
     alloc: Global,
@@ -212,8 +173,18 @@ fn is_line_of(
     node: u32,
     wanted: &[u8],
 ) -> Result<bool, AllocError> {
-    let line = line_of_node(alloc, store, node)?;
-    Ok(line.as_slice() == wanted)
+    let value = Ref {
+        origin: Origin::Template,
+        node,
+        key: false,
+    };
+    match store.view(value) {
+        Some(_) => {
+            let line = line_of_value(alloc, store, value)?;
+            Ok(line.as_slice() == wanted)
+        }
+        None => Ok(false),
+    }
 }
 
 /// The number of the first value that has another line.

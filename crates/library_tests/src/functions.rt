@@ -15,18 +15,9 @@ const ROOT: Row = Row::Found(Ref {
     key: false,
 });
 
-/// What a replacement at the site 5 makes of the template where nothing stands for the pattern and for what replaces.
-fn replaced(
-    alloc: Global,
-    store: &Store<'_, '_>,
-    book: &PatternBook,
-) -> Result<Vec<Made>, AllocError> {
-    regex_replace(alloc, 5, &[ROOT], &[], &[], store, book)
-}
-
-/// Whether it does not apply.
+/// Whether a replacement at the site 5 does not apply to the template where nothing stands for the pattern and for what replaces.
 fn is_unmade(alloc: Global, store: &Store<'_, '_>, book: &PatternBook) -> Result<bool, AllocError> {
-    let made = replaced(alloc, store, book)?;
+    let made = regex_replace(alloc, 5, &[ROOT], &[], &[], store, book)?;
     Ok(matches!(made.as_slice(), [Made::Kept(Row::Unmade { call: 5 })]))
 }
 

@@ -34,7 +34,6 @@ pub(crate) const KEY: Setting = Setting {
 };
 
 /// What is to stand at a place. Each scalar of these tests is a text.
-#[derive(Clone, Copy)]
 pub(crate) enum Wanted {
     /// A scalar whose text is a part of the source, and its end.
     Lent(&'static str, usize),
@@ -74,19 +73,19 @@ fn is_text(scalar: &Scalar<'_>, text: &str, end: usize) -> bool {
 }
 
 /// Whether a scalar is what is to stand there.
-fn is_scalar(scalar: &Scalar<'_>, wanted: Wanted) -> bool {
+fn is_scalar(scalar: &Scalar<'_>, wanted: &Wanted) -> bool {
     match wanted {
-        Wanted::Lent(text, end) => is_lent(scalar) && is_text(scalar, text, end),
-        Wanted::Made(text, end) => !is_lent(scalar) && is_text(scalar, text, end),
-        Wanted::Text(text, end) => is_text(scalar, text, end),
+        Wanted::Lent(text, end) => is_lent(scalar) && is_text(scalar, text, *end),
+        Wanted::Made(text, end) => !is_lent(scalar) && is_text(scalar, text, *end),
+        Wanted::Text(text, end) => is_text(scalar, text, *end),
         Wanted::Refused(_) => false,
     }
 }
 
 /// Whether a refusal is what is to come.
-fn is_refusal(refusal: ScalarRefusal, wanted: Wanted) -> bool {
+fn is_refusal(refusal: ScalarRefusal, wanted: &Wanted) -> bool {
     match wanted {
-        Wanted::Refused(at) => refusal == ScalarRefusal::Syntax(at),
+        Wanted::Refused(at) => refusal == ScalarRefusal::Syntax(*at),
         _ => false,
     }
 }
@@ -94,8 +93,8 @@ fn is_refusal(refusal: ScalarRefusal, wanted: Wanted) -> bool {
 /// Whether what is to stand in a source stands there.
 fn stands(alloc: Global, (setting, source, at, wanted): &Row) -> bool {
     match read(alloc, *source, *at, *setting) {
-        Ok(scalar) => is_scalar(&scalar, *wanted),
-        Err(refusal) => is_refusal(refusal, *wanted),
+        Ok(scalar) => is_scalar(&scalar, wanted),
+        Err(refusal) => is_refusal(refusal, wanted),
     }
 }
 

@@ -6,7 +6,7 @@ ghost use Rattle.guard_io.specs.Outside.{FaultCounted, IsPrefix};
 use guard_io::{Sink, SinkFault};
 
 /// Why a text was not written whole.
-#[derive(Clone, Copy, Debug)]
+#[derive(Clone, Copy)]
 pub enum ReportFault {
     /// The sink failed, and counted it.
     Failed,

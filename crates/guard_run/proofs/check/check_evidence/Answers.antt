@@ -52,3 +52,9 @@ returns-clause-outcome g c =
     IsOutcome-more (Ending (IsChecked inputs.rules inputs.tree evidence)) (OfEvidence told name inputs) NoneRose Rises NoneRose NoneRose
     (λ p end. inr (bytes, c.in_ok-bytes.ensures.loaded.0, inr (evidence, c.in_ok-evidence.ensures, end))) (none-rose Rises) (as-rose NoneRose)
     c.check_lines.result c.check_lines.ensures
+
+pub returns-clause-kept : goal.returns-clause-kept
+returns-clause-kept g c = c.load_bytes.ensures.kept
+
+pub returns-clause-contents : goal.returns-clause-contents
+returns-clause-contents g c = c.load_bytes.ensures.contents

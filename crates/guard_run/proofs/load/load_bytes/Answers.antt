@@ -25,3 +25,15 @@ returns-clause-loaded g c =
           c.new-bytes.ensures.items c.in-Ok.ensures.ok within,
       subst (λ n. length c.load.new.into.items ≤ n) c.limit_of-limit.ensures.limit within,
     )
+
+pub returns-then-len-limit-clause-kept : goal.returns-then-len-limit-clause-kept
+returns-then-len-limit-clause-kept g c = c.load.ensures.kept
+
+pub returns-clause-kept : goal.returns-clause-kept
+returns-clause-kept g c = c.load.ensures.kept
+
+pub returns-in-Err-Memory-clause-kept : goal.returns-in-Err-Memory-clause-kept
+returns-in-Err-Memory-clause-kept g c = c.load.ensures.kept
+
+pub returns-in-Err-Failed-clause-kept : goal.returns-in-Err-Failed-clause-kept
+returns-in-Err-Failed-clause-kept g c = c.load.ensures.kept

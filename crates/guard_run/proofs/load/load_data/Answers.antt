@@ -17,3 +17,6 @@ invariant_of-result g c = record { short = subst (λ (n : ℕ). length (string_b
 
 pub returns-clause-loaded : goal.returns-clause-loaded
 returns-clause-loaded g c = record { text = c.in_ok-text.ensures.loaded.0; format = c.format_of.ensures }
+
+pub returns-clause-kept : goal.returns-clause-kept
+returns-clause-kept g c = c.load_text.ensures.kept

@@ -29,3 +29,9 @@ returns-clause-loaded g c =
       c.in_ok-bytes.ensures.loaded.0,
       (NotText c.args.which, inr (refl, (c.in_ok-bytes.ensures.loaded.1, λ utf8. let bad : false ≡ true = c.in-Err.ensures.succeeds utf8 in absurd cc)), ap Ends (c.not_text.ensures bytes)),
     )
+
+pub returns-clause-kept : goal.returns-clause-kept
+returns-clause-kept g c = c.load_bytes.ensures.kept
+
+pub returns-in-Ok-clause-kept : goal.returns-in-Ok-clause-kept
+returns-in-Ok-clause-kept g c = c.load_bytes.ensures.kept

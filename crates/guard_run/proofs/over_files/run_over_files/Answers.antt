@@ -1,3 +1,5 @@
+use Rattle.std.proofs.Math.Nat.{le_trans}
+use Rattle.std.proofs.Common.{◌∙◌}
 use Rattle.guard_ends.specs.End.{Counts}
 use Rattle.guard_ends.specs.Order.{Ends, LoadingTexts, Refusing, WithParams, Work}
 use Rattle.guard_ends.specs.declared.ends.Which.TheVariants as file
@@ -42,3 +44,12 @@ returns-clause-outcome g c =
     (λ p came. sources-loaded told job.rules.now job.template.now params (Doing job.task told) sources c.in_ok-sources.ensures.loaded p
     (sources-same then told c.load_sources.ensures.contents job.task params sources p came))
     (rose-since before mid after c.load_sources.ensures.kept) (as-rose PatternRose) c.run_over_sources.result c.run_over_sources.ensures.outcome
+
+pub returns-clause-contents : goal.returns-clause-contents
+returns-clause-contents g c other = c.run_over_sources.ensures.contents other ∙ c.load_sources.ensures.contents other
+
+pub returns-clause-kept : goal.returns-clause-kept
+returns-clause-kept g c other = le_trans (c.load_sources.ensures.kept other) (c.run_over_sources.ensures.kept other)
+
+pub returns-clause-maker_kept : goal.returns-clause-maker_kept
+returns-clause-maker_kept g c = c.run_over_sources.ensures.maker_kept

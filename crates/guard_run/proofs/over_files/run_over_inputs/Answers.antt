@@ -32,3 +32,12 @@ returns-clause-outcome g c =
     let Does : Work = Doing c.args.task.now told inputs in
     IsOutcome-more Does (WithPatterns (Doing c.args.task.now told) inputs) FileRose FileRose NoneRose PatternRose
     (λ p goes. inr (c.in_ok-book.ensures.made.0, goes)) (as-rose FileRose) (none-rose PatternRose) c.run_task.result c.run_task.ensures.outcome
+
+pub returns-clause-maker_kept : goal.returns-clause-maker_kept
+returns-clause-maker_kept g c = c.make_patterns.ensures.kept
+
+pub returns-clause-kept : goal.returns-clause-kept
+returns-clause-kept g c = c.run_task.ensures.kept
+
+pub returns-clause-contents : goal.returns-clause-contents
+returns-clause-contents g c = c.run_task.ensures.contents

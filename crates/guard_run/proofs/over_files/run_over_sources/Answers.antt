@@ -41,3 +41,12 @@ returns-clause-outcome g c =
     IsOutcome-more (JoiningInputs Joined (inputs_of template) Does) (ReadingSources sources Joined Does) FileRose FileRose PatternRose PatternRose
     (template-read sources Joined Does template c.in_ok-template.ensures.read) (as-rose FileRose) (as-rose PatternRose)
     c.run_over_template.result c.run_over_template.ensures.outcome
+
+pub returns-clause-maker_kept : goal.returns-clause-maker_kept
+returns-clause-maker_kept g c = c.run_over_template.ensures.maker_kept
+
+pub returns-clause-kept : goal.returns-clause-kept
+returns-clause-kept g c = c.run_over_template.ensures.kept
+
+pub run_over_template-requires-clause-small : goal.run_over_template-requires-clause-small
+run_over_template-requires-clause-small g c = c.in_ok-template.ensures.small

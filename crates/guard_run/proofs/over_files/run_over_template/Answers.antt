@@ -1,4 +1,5 @@
-use Rattle.std.proofs.Common.{Option}
+use Rattle.std.proofs.Math.Nat.{le_trans}
+use Rattle.std.proofs.Common.{Option, ◌∙◌}
 use Rattle.doc_values.specs.Tree.{Forest}
 use Rattle.report_text.specs.Texts.{Parameters}
 use Rattle.guard_ends.specs.Order.{Ends, Inputs, WithParams, Work}
@@ -66,3 +67,15 @@ returns-clause-outcome g c =
     (joined-comes params inputs joined Does c.requires.alone c.in_ok-inputs.ensures p
     (doing-patterns then told c.load_params.ensures.contents job.task (inputs_of joined) p came)))
     (rose-since before mid after c.load_params.ensures.kept) (as-rose PatternRose) c.run_over_inputs.result c.run_over_inputs.ensures.outcome
+
+pub returns-clause-contents : goal.returns-clause-contents
+returns-clause-contents g c other = c.run_over_inputs.ensures.contents other ∙ c.load_params.ensures.contents other
+
+pub returns-clause-kept : goal.returns-clause-kept
+returns-clause-kept g c other = le_trans (c.load_params.ensures.kept other) (c.run_over_inputs.ensures.kept other)
+
+pub returns-clause-maker_kept : goal.returns-clause-maker_kept
+returns-clause-maker_kept g c = c.run_over_inputs.ensures.maker_kept
+
+pub join-requires : goal.join-requires
+join-requires g c = c.requires.small

@@ -1,4 +1,7 @@
-use Rattle.std.proofs.Common.{◌≡◌, ◌≤◌, false, length, subst, sym}
+use Rattle.guard_run.specs.code.Joined.{with_data}
+use Rattle.guard_run.specs.code.Inputs.{inputs_of}
+use Rattle.guard_ends.specs.Order.{Inputs}
+use Rattle.std.proofs.Common.{◌≡◌, ◌≤◌, false, length, subst, sym, ℕ, Some, ap₂}
 use Rattle.std.proofs.lemmas.Option.{same_Some}
 use Rattle.doc_values.specs.Limits.{template_limit}
 use Rattle.doc_values.specs.Tree.{Forest}
@@ -20,3 +23,10 @@ invariant_of-result c =
 
 pub returns-in-Err : goal.returns-in-Err
 returns-in-Err c = c.not_merged.ensures c.args.template.tree c.args.tree c.in-Err.ensures
+
+pub returns-in-Ok : goal.returns-in-Ok
+returns-in-Ok c =
+    let inputs : Inputs = inputs_of c.args.template in (
+      c.in-Ok.ensures.0,
+      ap₂ (λ (n : ℕ) (t : Forest). with_data inputs (Some (record { text = c.args.text.now; first = n })) t) c.len-nodes.ensures.nodes c.in-Ok.ensures.1,
+    )

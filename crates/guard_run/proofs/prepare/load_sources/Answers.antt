@@ -1,4 +1,5 @@
-use Rattle.std.proofs.Common.{inr, string_bytes, subst}
+use Rattle.std.proofs.Math.Nat.{le_trans}
+use Rattle.std.proofs.Common.{inr, string_bytes, subst, ◌∙◌}
 use Rattle.rule_names.specs.code.Files.{file_of}
 use Rattle.guard_ends.specs.Inputs.{RefusesRules}
 use Rattle.guard_ends.specs.Order.{IsContent, Loading, LoadingTexts, Refusing, Work}
@@ -63,3 +64,9 @@ returns-clause-loaded g c =
         format = c.in_ok-beside.ensures.loaded.format;
       };
     }
+
+pub returns-clause-contents : goal.returns-clause-contents
+returns-clause-contents g c other = c.load_data.ensures.contents other ∙ c.load_rules.ensures.contents other
+
+pub returns-clause-kept : goal.returns-clause-kept
+returns-clause-kept g c other = le_trans (c.load_rules.ensures.kept other) (c.load_data.ensures.kept other)

@@ -36,3 +36,9 @@ returns-clause-loaded g c =
     (λ rules read. (subst (IsContent (told name)) (sym read.0) c.in_ok-text.ensures.loaded.0, subst (λ (b : List ℕ). IsRuleFile b (file_of rules.file)) (sym read.0) read.1))
     (λ s stopped. IsStop-more (Refusing RefusesRules source) (Loading file.Rules told name (Refusing RefusesRules)) NoneRose (Rose before after) NoneRose NoneRose
     (λ p refused. inr (source, c.in_ok-text.ensures.loaded.0, refused)) (none-rose (Rose before after)) (as-rose NoneRose) s stopped)
+
+pub returns-clause-contents : goal.returns-clause-contents
+returns-clause-contents g c = c.load_text.ensures.contents
+
+pub returns-clause-kept : goal.returns-clause-kept
+returns-clause-kept g c = c.load_text.ensures.kept

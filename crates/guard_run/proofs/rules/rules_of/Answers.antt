@@ -15,3 +15,6 @@ returns-in_err-raw c =
     (IsStop-more (Refusing RefusesUnnamed text) (Refusing RefusesRules text) NoneRose NoneRose NoneRose NoneRose
     (λ p refused. (refused.0, unnamed-rules text refused.0 refused.1, refused.2)) (as-rose NoneRose) (as-rose NoneRose)
     c.in_err-raw.field-0.0 c.in_err-raw.ensures)
+
+pub rules_of_syntax-requires-clause-syntax : goal.rules_of_syntax-requires-clause-syntax
+rules_of_syntax-requires-clause-syntax c = c.in_ok-raw.ensures

@@ -1,10 +1,10 @@
-use Rattle.std.proofs.Common.{None, ap, inr, refl, subst}
+use Rattle.std.proofs.Common.{None, ap, inr, refl, subst, sym}
 use Rattle.doc_values.specs.Limits.{rules_limit}
 use Rattle.guard_syntax.specs.code.Seen.{see_file}
 use Rattle.name_table.specs.code.Refused.{IsNameRefusal}
 use Rattle.name_table.specs.declared.refusal.NameRefusal.TheVariants.{Bad}
 use Rattle.rule_names.specs.Faults.{Fault}
-use Rattle.guard_ends.specs.Inputs.{IsText, name_kind, name_said}
+use Rattle.guard_ends.specs.Inputs.{IsSyntax, IsText, name_kind, name_said}
 use Rattle.guard_ends.specs.Order.{Ends}
 use Rattle.guard_ends.specs.declared.ends.Refusal.TheVariants.{At}
 use Rattle.guard_ends.specs.declared.ends.Which.TheVariants as file
@@ -26,3 +26,10 @@ returns-in-Ok-refused_name c =
       (text, inr (see_file c.args.raw, c.requires.syntax, (fault, bad, refl, refl, refl))),
       ap Ends (rw c.as_bytes.ensures.value at c.in-Ok-refused_name.ensures),
     )
+
+pub returns-in-Ok : goal.returns-in-Ok
+returns-in-Ok c = record {
+  text = record { within = c.requires.short; utf8 = c.utf8.text };
+  read = subst (IsSyntax c.args.text.now) (sym c.in-Ok.ensures) c.requires.syntax;
+  named = c.in-Ok.rules.named;
+}

@@ -1,4 +1,4 @@
-use Rattle.std.proofs.Common.{◌≤◌, List, ℕ, inr, length, refl, string_bytes, subst, sym}
+use Rattle.std.proofs.Common.{◌≤◌, List, ℕ, inr, length, string_bytes, subst, sym}
 use Rattle.doc_values.specs.Limits.{rules_limit}
 use Rattle.guard_syntax.specs.Syntax.{File}
 use Rattle.guard_ends.specs.Order.{Ending, Ends, IsTested, MakingPatterns, Work}
@@ -7,7 +7,7 @@ use Rattle.guard_run.specs.code.Stops.{AreNotMade, IsStop, NoneRose, Rose}
 use Rattle.guard_run.specs.code.Tested.{Testing, cases_of, rules_of}
 use Rattle.guard_run.specs.declared.done.Done.{Done}
 use Rattle.guard_run.specs.declared.stop.Stop.{Stop}
-use Rattle.guard_run.proofs.Outcomes.{IsStop-more, as-rose, at-exit}
+use Rattle.guard_run.proofs.Outcomes.{IsOutcome-more, IsStop-more, as-rose, at-exit, none-rose}
 use Rattle.guard_run.proofs.Stages.{patterns-more}
 use Rattle.guard_run.proofs.test.judge_tests.Goals as goal
 
@@ -31,4 +31,11 @@ returns-in_err-book-clause-outcome g c =
     (as-rose NoneRose) (as-rose PatternRose) s stopped)
 
 pub returns-clause-outcome : goal.returns-clause-outcome
-returns-clause-outcome g c = inr (c.in_ok-book.ensures.made.0, (ended c.in_ok-done.done, c.in_ok-done.ensures, refl))
+returns-clause-outcome g c =
+    let tests = c.args.tests.now in
+    let PatternRose = Rose (g.M.PatternMaker.faults c.args.maker.now) (g.M.PatternMaker.faults c.make_patterns.new.maker) in
+    IsOutcome-more (Ending (IsTested (rules_of tests) tests.tree (cases_of tests))) (Testing tests) NoneRose NoneRose NoneRose PatternRose
+    (λ p goes. inr (c.in_ok-book.ensures.made.0, goes)) (as-rose NoneRose) (none-rose PatternRose) c.say_tests.result c.say_tests.ensures
+
+pub returns-clause-maker_kept : goal.returns-clause-maker_kept
+returns-clause-maker_kept g c = c.make_patterns.ensures.kept

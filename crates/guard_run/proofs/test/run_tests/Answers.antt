@@ -36,3 +36,12 @@ returns-clause-outcome g c =
     IsOutcome-more (TestingSources sources) (OfTests told rules tests) NoneRose FileRose PatternRose PatternRose
     (tests-loaded told rules tests sources c.in_ok-sources.ensures.loaded) (none-rose FileRose) (as-rose PatternRose)
     c.test_sources.result c.test_sources.ensures.outcome
+
+pub returns-clause-contents : goal.returns-clause-contents
+returns-clause-contents g c = c.load_sources.ensures.contents
+
+pub returns-clause-kept : goal.returns-clause-kept
+returns-clause-kept g c = c.load_sources.ensures.kept
+
+pub returns-clause-maker_kept : goal.returns-clause-maker_kept
+returns-clause-maker_kept g c = c.test_sources.ensures.maker_kept

@@ -24,3 +24,6 @@ returns-clause-outcome g c =
     let PatternRose = Rose (g.M.PatternMaker.faults c.args.maker.now) (g.M.PatternMaker.faults c.judge_tests.new.maker) in
     IsOutcome-more (Testing tests) (TestingSources sources) NoneRose NoneRose PatternRose PatternRose
     (tests-read sources tests c.in_ok-tests.ensures) (as-rose NoneRose) (as-rose PatternRose) c.judge_tests.result c.judge_tests.ensures.outcome
+
+pub returns-clause-maker_kept : goal.returns-clause-maker_kept
+returns-clause-maker_kept g c = c.judge_tests.ensures.maker_kept

@@ -22,3 +22,9 @@ returns c answers obey =
     let template = c.in_ok-evaluation.ensures.template in
     subst (λ (t : Forest). IfOk c.verdicts_by.result (λ verdicts. verdicts.items ≡ verdicts_of (world_over rules t answers))) template
     (c.verdicts_by.ensures answers (subst (λ (t : Forest). IsAnswering (world_over rules t answers)) (sym template) obey))
+
+pub verdicts_by-requires-clause-file : goal.verdicts_by-requires-clause-file
+verdicts_by-requires-clause-file c = c.in_ok-evaluation.ensures.file
+
+pub verdicts_by-requires-clause-whole : goal.verdicts_by-requires-clause-whole
+verdicts_by-requires-clause-whole c = c.in_ok-evaluation.ensures.whole

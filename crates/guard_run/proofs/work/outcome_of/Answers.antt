@@ -22,3 +22,9 @@ returns-in-Ok-clause-outcome g c =
 
 pub returns-in-Err-Usage-clause-outcome : goal.returns-in-Err-Usage-clause-outcome
 returns-in-Err-Usage-clause-outcome g c = inr (c.in-Err-Usage.ensures.usage (ap Err c.in-Err-Usage.field-0-is), refl)
+
+pub returns-in-Ok-clause-maker_kept : goal.returns-in-Ok-clause-maker_kept
+returns-in-Ok-clause-maker_kept g c = c.run.ensures.maker_kept
+
+pub returns-in-Ok-clause-kept : goal.returns-in-Ok-clause-kept
+returns-in-Ok-clause-kept g c = c.run.ensures.kept

@@ -114,3 +114,15 @@ returns-in-Tree-clause-outcome g c =
     (subst (λ (r : List ℕ). IsOutcomeBy (OfSyntax told r) before after came) c.as_str-in-Tree.ensures.value
     (IsOutcome-more Comes Comes FileRose FileRose NoneRose (Rose before.patterns after.patterns)
     (λ p at_it. at_it) (as-rose FileRose) (none-rose (Rose before.patterns after.patterns)) came c.run_parse_tree.ensures.outcome))
+
+pub returns-in-Check-clause-maker_kept : goal.returns-in-Check-clause-maker_kept
+returns-in-Check-clause-maker_kept g c = c.run_over_files-in-Check.ensures.maker_kept
+
+pub returns-in-Check-clause-kept : goal.returns-in-Check-clause-kept
+returns-in-Check-clause-kept g c = c.run_over_files-in-Check.ensures.kept
+
+pub returns-in-Validate-clause-maker_kept : goal.returns-in-Validate-clause-maker_kept
+returns-in-Validate-clause-maker_kept g c = c.run_over_files.ensures.maker_kept
+
+pub returns-in-Validate-clause-kept : goal.returns-in-Validate-clause-kept
+returns-in-Validate-clause-kept g c = c.run_over_files.ensures.kept

@@ -72,3 +72,9 @@ returns-in-Ok-clause-out_fault g c = λ is.
 
 pub returns-in-Ok-clause-err_fault : goal.returns-in-Ok-clause-err_fault
 returns-in-Ok-clause-err_fault g c = λ is. c.say.ensures.fault (reported-no-fault c.args.done.how pipe.Err c.args.done.reported) is
+
+pub returns-in-Err-Failed-clause-out_fault : goal.returns-in-Err-Failed-clause-out_fault
+returns-in-Err-Failed-clause-out_fault g c = λ is. c.in-Err-Failed.ensures.failed (ap Err c.in-Err-Failed.field-0-is)
+
+pub returns-in-Err-Failed-clause-err_fault : goal.returns-in-Err-Failed-clause-err_fault
+returns-in-Err-Failed-clause-err_fault g c = λ is. c.say-in-Err-Failed.ensures.fault out-not-err is

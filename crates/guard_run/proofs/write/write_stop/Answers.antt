@@ -1,4 +1,7 @@
-use Rattle.std.proofs.Common.{inl, inr, refl, [], subst}
+use Rattle.guard_ends.specs.declared.ends.Which.{Which}
+use Rattle.guard_ends.specs.declared.ends.Refusal.{Refusal}
+use Rattle.guard_ends.specs.declared.ends.Pipe.TheVariants.{Err}
+use Rattle.std.proofs.Common.{inl, inr, refl, [], subst, ◌≢◌}
 use Rattle.guard_ends.specs.End.{Unread, Unmade, Took}
 use Rattle.guard_ends.specs.Lines.{usage_line, read_fault_line, pattern_line}
 use Rattle.guard_ends.specs.Order.{ComesTo, EndOf, usage}
@@ -55,3 +58,27 @@ returns-in-Memory-clause-closed g c = λ words told before after out end.
     Closed-memory words told before after c.say_memory.result
     out out (g.E.Sink.told c.args.err.now) (g.E.Sink.told c.say_memory.new.err) []
     (inl (refl, refl)) (Took-nothing out) c.say_memory.ensures.said
+
+usage-not-err : end_is.Usage ≢ end_is.WriteFault Err
+usage-not-err is = cc
+
+refused-not-err : (r : Refusal) → end_is.Refused r ≢ end_is.WriteFault Err
+refused-not-err r is = cc
+
+unread-not-err : (which : Which) → end_is.ReadFault which ≢ end_is.WriteFault Err
+unread-not-err which is = cc
+
+unmade-not-err : end_is.PatternRefused ≢ end_is.WriteFault Err
+unmade-not-err is = cc
+
+pub returns-in-Usage-clause-err_fault : goal.returns-in-Usage-clause-err_fault
+returns-in-Usage-clause-err_fault g c = λ is. c.say.ensures.fault usage-not-err is
+
+pub returns-in-Refused-clause-err_fault : goal.returns-in-Refused-clause-err_fault
+returns-in-Refused-clause-err_fault g c = λ is. c.say-in-Refused.ensures.fault (refused-not-err c.in-Refused.field-0.refusal) is
+
+pub returns-in-Unread-clause-err_fault : goal.returns-in-Unread-clause-err_fault
+returns-in-Unread-clause-err_fault g c = λ is. c.say-in-Unread.ensures.fault (unread-not-err c.in-Unread.which) is
+
+pub returns-in-Unmade-clause-err_fault : goal.returns-in-Unmade-clause-err_fault
+returns-in-Unmade-clause-err_fault g c = λ is. c.say-in-Unmade.ensures.fault unmade-not-err is

@@ -21,3 +21,9 @@ returns c =
     (ap (λ ds. disj_list (map see_disj ds)) (sym (c.as_slice-loose.ensures.value ∙ ap (λ (raw : RawFile). raw.loose.items) c.raw-raw.ensures)))
     c.loop-rule-test.false (λ none. grind (arith, common_steps)) refl refl
     (btree_map_updates_str (codes "default") c.loop-rule.sites c.insert-2.new.self _ c.in_ok-insert-2.ensures.updates) c.loop-rule.invariant
+
+pub loop-rule-preserved-then-not-is_empty : goal.loop-rule-preserved-then-not-is_empty
+loop-rule-preserved-then-not-is_empty c = grind (arith, common_steps)
+
+pub returns-then-is_empty : goal.returns-then-is_empty
+returns-then-is_empty c = grind (arith, common_steps)

@@ -22,3 +22,6 @@ returns c =
     let none : AreVerdicts [] [] c.new-by_name.result = λ name. grind (arith, common_steps) in
     default-verdict c.args.loose.now c.args.verdicts.now c.new-by_name.result c.insert.new.self (codes "default") _ Pass (λ none. grind (arith, common_steps)) c.requires none refl refl
     (btree_map_updates_str (codes "default") c.new-by_name.result c.insert.new.self _ c.in_ok-insert.ensures.updates)
+
+pub returns-then-is_empty : goal.returns-then-is_empty
+returns-then-is_empty c = grind (arith, common_steps)

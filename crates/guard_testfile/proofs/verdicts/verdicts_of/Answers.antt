@@ -33,3 +33,18 @@ loop-index-preserved c =
     let most : c.loop-index.left ≤ length c.args.verdicts.now = left-within rules loose c.args.verdicts.now i c.loop-index.left c.loop-index.invariant.counted c.requires in
     behind-more rules loose c.args.verdicts.now i (i - 1) c.loop-index.left rule next within c.index-rules-index.is c.loop-index.by_name c.insert.new.self c.as_str.result.now _ Pass (c.loop-index.left - 1) (sym one) plain c.as_str.ensures most refl
     (btree_map_updates_str c.as_str.result.now c.loop-index.by_name c.insert.new.self _ c.in_ok-insert.ensures.updates) c.loop-index.invariant
+
+pub default_alone-requires : goal.default_alone-requires
+default_alone-requires c = grind (arith, common_steps)
+
+pub loop-index-init : goal.loop-index-init
+loop-index-init c = grind (arith, common_steps)
+
+pub loop-index-preserved-then-not-is_empty : goal.loop-index-preserved-then-not-is_empty
+loop-index-preserved-then-not-is_empty c = grind (arith, common_steps)
+
+pub overflow_sub-left : goal.overflow_sub-left
+overflow_sub-left c = grind (arith, common_steps)
+
+pub overflow_sub-left-in-loop-index : goal.overflow_sub-left-in-loop-index
+overflow_sub-left-in-loop-index c = grind (arith, common_steps)

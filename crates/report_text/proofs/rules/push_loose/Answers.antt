@@ -22,3 +22,6 @@ returns c =
     subst (λ t. OnOk c.push_rule_line.result (c.push_rule_line.new.lines.items ≡ c.args.lines.now.items ++ t))
     (sym (ap (λ ns. rule_lines ns c.args.verdicts.now) named ∙ first-line (codes "default") c.args.verdicts.now Pass within))
     c.push_rule_line.ensures
+
+pub returns-then-is_empty : goal.returns-then-is_empty
+returns-then-is_empty c = grind (arith, common_steps)
