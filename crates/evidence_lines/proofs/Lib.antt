@@ -1,12 +1,3 @@
-pub mod Bounds
-pub mod Cuts
-pub mod Fields
 pub mod HeldLines
-pub mod Lines
-pub mod Lists
 pub mod NodeRows
-pub mod Numbers
 pub mod SameRows
-pub mod Scans
-pub mod Texts
-pub mod Values

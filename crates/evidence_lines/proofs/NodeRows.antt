@@ -1,15 +1,12 @@
 -- Rows that are values at nodes of the template are had from the nodes.
-use Rattle.std.proofs.Common.{◌≡◌, ◌<◌, ◌+◌, ℕ, Bool, true, false, not, List, [], ◌∷◌, ◌++◌, All, get_or, length, map, take, refl, sym, ap, ap₂, ◌∙◌}
-use Rattle.std.specs.List.{flat_map, list_all}
+use Rattle.std.proofs.Common.{◌≡◌, ◌<◌, ◌+◌, ℕ, Bool, true, false, not, List, [], ◌∷◌, ◌++◌, get_or, length, map, take, refl, sym, ap, ap₂, ◌∙◌}
+use Rattle.std.specs.List.{list_all}
 use Rattle.std.proofs.lemmas.Bool.{and_parts, false≢true}
 use Rattle.std.proofs.lemmas.List.{append_assoc, map_more}
-use Rattle.std.proofs.lemmas.List.Elements.{All-cons, All-head, All-nil, All-tail}
 use Rattle.guard_syntax.specs.declared.row.Origin.{Origin}
 use Rattle.guard_syntax.specs.declared.row.Origin.TheVariants.{Template, Literal, Made}
 use Rattle.guard_syntax.specs.declared.row.Row.{Row}
 use Rattle.guard_syntax.specs.declared.row.Row.TheVariants.{Found, Missing, Unmade}
-use Rattle.evidence_lines.specs.Shapes.{IsRowBounded}
-use Rattle.evidence_lines.specs.Spelling.{further_text, row_text}
 use Rattle.evidence_lines.specs.code.RowsSeen.{is_node_row, is_template, node_of, node_row}
 
 template-is : (o : Origin) → is_template o ≡ true → o ≡ Template
@@ -35,18 +32,6 @@ rows-at-nodes [] all = refl
 rows-at-nodes (r ∷ rows) all =
     let parts = and_parts (is_node_row r) (list_all is_node_row rows) all in
     ap₂ (λ (x : Row) (xs : List Row). x ∷ xs) (row-at-node r parts.0) (rows-at-nodes rows parts.1)
-
--- their text
-pub further-at-nodes : (nodes : List ℕ) → flat_map (further_text (λ n. row_text (node_row n))) nodes ≡ flat_map (further_text row_text) (map node_row nodes)
-further-at-nodes [] = refl
-further-at-nodes (n ∷ nodes) = ap (λ t. further_text row_text (node_row n) ++ t) (further-at-nodes nodes)
-
--- their bounds
-pub bounded-at-nodes : (nodes : List ℕ) → All (λ n. IsRowBounded (node_row n)) nodes → All IsRowBounded (map node_row nodes)
-bounded-at-nodes [] all = All-nil IsRowBounded
-bounded-at-nodes (n ∷ nodes) all =
-    let At : ℕ → Type 0 = λ n. IsRowBounded (node_row n) in
-    All-cons IsRowBounded (node_row n) (map node_row nodes) (All-head At n nodes all) (bounded-at-nodes nodes (All-tail At n nodes all))
 
 -- one node more behind those before it
 pub nodes-more : (start now : List ℕ) (rows : List Row) (i : ℕ) (d : Row) → i < length rows → now ≡ start ++ map node_of (take i rows)

@@ -1,7 +1,4 @@
 -- What serves the code and its proofs alone: nobody has to believe it.
 pub mod Held
-pub mod Memory
-pub mod Reading
 pub mod RowsSeen
 pub mod Said
-pub mod Seen

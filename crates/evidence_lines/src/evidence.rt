@@ -120,8 +120,8 @@ impl Evidence {
         }
     }
 
-    /// No lines yet, and room for so many.
-    pub(crate) fn with_room(
+    /// No lines yet, and room for so many. It takes no memory for none.
+    pub fn with_room(
         alloc: Global,
         version: Version,
         lines: usize,

@@ -1,9 +1,7 @@
 //! A line of evidence.
 ghost use Rattle.std.specs.Prelude.{◌≡◌, ◌∷◌, [], IfOk, length, map, slice_get};
-ghost use Rattle.evidence_lines.specs.code.Reading.{kind_in};
 ghost use Rattle.evidence_lines.specs.code.RowsSeen.{node_row};
 ghost use Rattle.evidence_lines.specs.Shapes.{is_placed, may_cite, sort_of};
-ghost use Rattle.evidence_lines.specs.Spelling.{kind_text};
 
 use crate::gathered::Gathered;
 use crate::node_rows::{node_row, rows_of_nodes};
@@ -63,82 +61,7 @@ pub enum Sort {
     Verdict,
 }
 
-/// Every kind, those of most lines first.
-const KINDS: [LineKind; 19] = [
-    LineKind::Step,
-    LineKind::Test,
-    LineKind::Disj,
-    LineKind::Conj,
-    LineKind::Frame,
-    LineKind::Literal,
-    LineKind::Rule,
-    LineKind::Filter,
-    LineKind::Block,
-    LineKind::When,
-    LineKind::Call,
-    LineKind::Fn,
-    LineKind::Keys,
-    LineKind::Capture,
-    LineKind::Types,
-    LineKind::Kinds,
-    LineKind::Refer,
-    LineKind::Found,
-    LineKind::File,
-];
-
 impl LineKind {
-    /// The word that names the kind.
-    pub fn name(self) -> &'static str
-        ensures { result.now ≡ kind_text self }
-    {
-        match self {
-            LineKind::File => "file",
-            LineKind::Frame => "frame",
-            LineKind::Literal => "literal",
-            LineKind::Found => "found",
-            LineKind::Fn => "fn",
-            LineKind::Step => "step",
-            LineKind::Filter => "filter",
-            LineKind::Keys => "keys",
-            LineKind::Capture => "capture",
-            LineKind::Types => "types",
-            LineKind::Test => "test",
-            LineKind::Refer => "refer",
-            LineKind::Call => "call",
-            LineKind::Disj => "disj",
-            LineKind::Conj => "conj",
-            LineKind::When => "when",
-            LineKind::Block => "block",
-            LineKind::Kinds => "kinds",
-            LineKind::Rule => "rule",
-        }
-    }
-
-    /// The kind of a name.
-    pub(crate) fn named(name: &[u8]) -> Option<LineKind>
-        ensures { result ≡ kind_in name.now }
-    {
-        match name {
-            b"step" => Some(LineKind::Step),
-            b"test" => Some(LineKind::Test),
-            b"disj" => Some(LineKind::Disj),
-            b"conj" => Some(LineKind::Conj),
-            b"frame" => Some(LineKind::Frame),
-            b"literal" => Some(LineKind::Literal),
-            _ => LineKind::listed(name),
-        }
-    }
-
-    /// The same by the list of all kinds.
-    fn listed(name: &[u8]) -> Option<LineKind>
-        ensures { result ≡ kind_in name.now }
-    {
-        KINDS
-            .iter()
-            .copied()
-            .find(|kind| kind.name().as_bytes() == name)
-    }
-
     /// What a line of the kind says.
     pub fn sort(self) -> Sort
         ensures { result ≡ sort_of self }

@@ -5,8 +5,8 @@ use Rattle.std.specs.Prelude.{ℕ, ◌<◌, ◌≤◌, ◌≡◌, ◌⊎◌, Lis
 use Rattle.std.specs.List.{ends_with}
 use Rattle.doc_values.specs.Limits.{evidence_limit, rules_limit, template_limit}
 use Rattle.doc_values.specs.Tree.{Forest}
-use Rattle.evidence_lines.specs.Text.{IsEvidence, IsFault}
 use Rattle.evidence_lines.specs.Versioned.{Versioned}
+use Rattle.evidence_text.specs.Text.{IsEvidence, IsFault}
 use Rattle.json_reader.specs.Json.{Json}
 use Rattle.json_reader.specs.Refusals as json
 use Rattle.json_reader.specs.declared.refusal.JsonRefusal.{JsonRefusal}

@@ -6,10 +6,10 @@ use Rattle.std.specs.Option.{ForSome}
 use Rattle.doc_values.specs.Places.{first_kids, first_label}
 use Rattle.doc_values.specs.Merge.{first_shared, is_map_tree, merged}
 use Rattle.doc_values.specs.Tree.{Forest, size}
-use Rattle.evidence_lines.specs.Text.{IsEvidence}
 use Rattle.evidence_lines.specs.Versioned.{Versioned}
 use Rattle.evidence_lines.specs.declared.line.Line.{Line}
 use Rattle.evidence_lines.specs.declared.version.Version.TheVariants.{Two}
+use Rattle.evidence_text.specs.Text.{IsEvidence}
 use Rattle.evidence_rules.specs.Follows.{Accepts}
 use Rattle.evidence_rules.specs.Rejected.{IsRejectedAt}
 use Rattle.evidence_rules.specs.RuleLines.{AreOfRules}

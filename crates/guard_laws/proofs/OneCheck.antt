@@ -3,10 +3,10 @@ use Rattle.std.proofs.Common.{◌≡◌, ◌⊎◌, ◌≤◌, ◌<◌, ℕ, zer
 use Rattle.doc_values.specs.Limits.{evidence_limit}
 use Rattle.doc_values.specs.Tree.{Forest}
 use Rattle.evidence_rules.specs.Rejected.{IsRejectedAt}
-use Rattle.evidence_lines.specs.Text.{IsEvidence, IsFault}
 use Rattle.evidence_lines.specs.Versioned.{Versioned}
 use Rattle.evidence_lines.specs.declared.line.Line.{Line}
 use Rattle.evidence_lines.specs.declared.version.Version.{Version}
+use Rattle.evidence_text.specs.Text.{IsEvidence, IsFault}
 use Rattle.guard_syntax.specs.Syntax.{File}
 use Rattle.guard_syntax.specs.declared.row.Verdict.{Verdict}
 use Rattle.rule_meaning.specs.StoreModel.{StoreModel}

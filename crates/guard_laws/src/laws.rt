@@ -32,7 +32,7 @@ ghost use Rattle.guard_ends.specs.declared.ends.Refusal.{Refusal};
 ghost use Rattle.guard_ends.specs.declared.ends.Which.{Which};
 ghost use Rattle.guard_ends.specs.declared.format.Format.{Format};
 
-use evidence_lines::one_text;
+use evidence_text::one_text;
 use evidence_truth::lines_true;
 use generator_laws::generated_text_is_rule_file;
 use guard_parser::{one_syntax, sites_in_order};

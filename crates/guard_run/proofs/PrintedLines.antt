@@ -6,10 +6,10 @@ use Rattle.std.proofs.lemmas.Option.{get_or_from_slice_get, slice_get_within}
 use Rattle.evidence_lines.specs.Headers.{header}
 use Rattle.evidence_lines.specs.Lines.{line_of}
 use Rattle.evidence_lines.specs.Shapes.{HasShape, IsBounded, IsInFormat}
-use Rattle.evidence_lines.specs.Spelling.{line_text}
-use Rattle.evidence_lines.specs.Text.{evidence_text}
 use Rattle.evidence_lines.specs.declared.line.Line.{Line}
 use Rattle.evidence_lines.specs.declared.version.Version.{Version}
+use Rattle.evidence_text.specs.Spelling.{line_text}
+use Rattle.evidence_text.specs.Text.{evidence_text}
 use Rattle.doc_values.specs.Tree.{Forest}
 use Rattle.guard_syntax.specs.Syntax.{File}
 use Rattle.rule_meaning.specs.Seeing.{grown}

@@ -1,8 +1,8 @@
 //! `validate --evidence`: inputs are judged, and the evidence of it is what out takes; the report goes to err.
 ghost use Rattle.std.specs.Prelude.{◌≡◌, All, IfOk, if◌then◌else◌};
 ghost use Rattle.evidence_lines.specs.Shapes.{HasShape};
-ghost use Rattle.evidence_lines.specs.Text.{IsEvidence};
 ghost use Rattle.evidence_lines.specs.declared.version.Version.TheVariants.{Two};
+ghost use Rattle.evidence_text.specs.Text.{IsEvidence};
 ghost use Rattle.rule_names.specs.code.Files.{file_of};
 ghost use Rattle.value_compare.specs.code.Stores.{see_store};
 ghost use Rattle.evidence_rules.specs.Follows.{Accepts};
@@ -19,7 +19,8 @@ use crate::inputs::Ready;
 use crate::report::{Form, Judgement, judgement_of};
 use crate::stop::Stop;
 use crate::written::Written;
-use evidence_lines::{Evidence, print_line};
+use evidence_lines::Evidence;
+use evidence_text::print_line;
 use guard_ends::End;
 use query_steps::one_answer_over_locations;
 use rule_calls::{Evaluation, evaluate};

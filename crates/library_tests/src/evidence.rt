@@ -2,9 +2,8 @@
 ghost use Rattle.std.specs.Prelude.{All};
 ghost use Rattle.evidence_lines.specs.Shapes.{IsInFormat};
 
-use evidence_lines::{
-    Cites, Evidence, Line, LineKind, Outcome, Version, print_line, read_evidence,
-};
+use evidence_lines::{Cites, Evidence, Line, LineKind, Outcome, Version};
+use evidence_text::{print_line, read_evidence};
 use guard_syntax::Verdict;
 use std::alloc::{AllocError, Global};
 use std::test::Fail;

@@ -1,6 +1,6 @@
 use Rattle.std.proofs.Common.{ℕ, List, ap, subst}
-use Rattle.evidence_lines.specs.Text.{IsEvidence, IsFault, IsRefused}
-use Rattle.evidence_lines.specs.declared.refusal.EvidenceRefusal.{EvidenceRefusal}
+use Rattle.evidence_text.specs.Text.{IsEvidence, IsFault, IsRefused}
+use Rattle.evidence_text.specs.declared.refusal.EvidenceRefusal.{EvidenceRefusal}
 use Rattle.guard_ends.specs.Order.{Ends}
 use Rattle.guard_ends.specs.declared.ends.Refusal.TheVariants.{EvidenceSyntax}
 use Rattle.guard_run.proofs.check.lines_of.Goals as goal

@@ -3,7 +3,7 @@ use Rattle.std.proofs.lemmas.List.{append-nil, take_all}
 use Rattle.std.proofs.lemmas.List.Elements.{All-nil}
 use Rattle.evidence_lines.specs.Headers.{header}
 use Rattle.evidence_lines.specs.Shapes.{IsInFormat}
-use Rattle.evidence_lines.specs.Text.{evidence_text}
+use Rattle.evidence_text.specs.Text.{evidence_text}
 use Rattle.guard_run.proofs.PrintedLines.{format-more, shape-here, text-more}
 use Rattle.guard_run.proofs.evidence.evidence_text.Goals as goal
 

@@ -1,6 +1,6 @@
 use Rattle.std.proofs.Common.{◌≡◌, All, take}
 use Rattle.evidence_lines.specs.Shapes.{IsInFormat}
-use Rattle.evidence_lines.specs.Text.{evidence_text}
+use Rattle.evidence_text.specs.Text.{evidence_text}
 use Rattle.guard_run.proofs.evidence.evidence_text.Given as goal
 
 abbrev pub invariant-loop-before : goal.invariant-loop-before

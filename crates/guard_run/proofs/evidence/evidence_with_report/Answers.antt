@@ -1,7 +1,7 @@
 use Rattle.std.proofs.Common.{refl, subst}
-use Rattle.evidence_lines.specs.Text.{IsEvidence}
 use Rattle.evidence_lines.specs.declared.version.Version.{Version}
 use Rattle.evidence_lines.specs.declared.version.Version.TheVariants.{Two}
+use Rattle.evidence_text.specs.Text.{IsEvidence}
 use Rattle.rule_meaning.specs.FunctionMeaning.{IsAnswering}
 use Rattle.rule_meaning.specs.Locations.{Answers}
 use Rattle.guard_ends.specs.Order.{Ending, Ends, Inputs, IsJudgedBy, Work}

@@ -1,5 +1,0 @@
-use Rattle.evidence_lines.proofs.Texts.{never_both, no_front, one_fault, one_list}
-use Rattle.evidence_lines.proofs.laws.one_text.Goals as goal
-
-pub returns : goal.returns
-returns c = record { no_front = no_front; one_list = one_list; one_fault = one_fault; never_both = never_both }

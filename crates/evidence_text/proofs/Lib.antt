@@ -1,0 +1,10 @@
+pub mod Bounds
+pub mod Cuts
+pub mod Fields
+pub mod Lines
+pub mod Lists
+pub mod Numbers
+pub mod RowsLeft
+pub mod Scans
+pub mod Texts
+pub mod Values

@@ -1,0 +1,4 @@
+-- What serves the code and its proofs alone: nobody has to believe it.
+pub mod Memory
+pub mod Reading
+pub mod Seen
