@@ -121,11 +121,7 @@ impl Evidence {
     }
 
     /// No lines yet, and room for so many. It takes no memory for none.
-    pub fn with_room(
-        alloc: Global,
-        version: Version,
-        lines: usize,
-    ) -> Result<Evidence, AllocError>
+    pub fn with_room(alloc: Global, version: Version, lines: usize) -> Result<Evidence, AllocError>
         ensures version { IfOk result (λ e. e.version ≡ version) }
         ensures lines { IfOk result (λ e. e.lines ≡ []) }
         ensures none { lines ≡ 0 → IsOk result }
