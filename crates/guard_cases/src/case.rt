@@ -3,14 +3,14 @@ use crate::heading::{Heading, Source};
 use std::alloc::{AllocError, Global};
 
 /// A piece of a file. The pieces of one name stand in the file in order.
-#[derive(Clone, Copy, Debug)]
+#[derive(Clone, Copy)]
 pub struct Piece<'t> {
     pub name: &'t str,
     pub content: Content<'t>,
 }
 
 /// What a piece of a file is.
-#[derive(Clone, Copy, Debug)]
+#[derive(Clone, Copy)]
 pub enum Content<'t> {
     /// This text, so many times.
     Text { text: &'t [u8], times: u64 },
@@ -19,7 +19,7 @@ pub enum Content<'t> {
 }
 
 /// What out is to take: lines, without the newline of the last.
-#[derive(Clone, Copy, Debug)]
+#[derive(Clone, Copy)]
 pub enum WantedOut<'t> {
     /// These lines.
     Whole(&'t [u8]),
@@ -30,7 +30,7 @@ pub enum WantedOut<'t> {
 }
 
 /// A call and what is wanted of it.
-#[derive(Debug, Drop)]
+#[derive(Drop)]
 pub struct Case<'t> {
     pub name: &'t str,
     /// The words, parted by one space each; none: no words.

@@ -8,7 +8,7 @@ use std::borrow::CowSlice;
 const ENTRY_MARK: &[u8] = b"  ";
 
 /// Something in which a call differs from what is wanted.
-#[derive(Clone, Copy, Debug)]
+#[derive(Clone, Copy)]
 pub enum Difference<'a> {
     Status {
         wanted: u8,

@@ -3,7 +3,7 @@ use crate::refusal::Misfit;
 use std::str;
 
 /// Where the content of a file comes from.
-#[derive(Clone, Copy, Debug, PartialEq, Eq)]
+#[derive(Clone, Copy)]
 pub enum Source {
     /// The text behind the heading, this many times.
     Text { times: u64 },
@@ -12,7 +12,7 @@ pub enum Source {
 }
 
 /// What a part of a table is.
-#[derive(Clone, Copy, Debug, PartialEq, Eq)]
+#[derive(Clone, Copy)]
 pub enum Heading<'t> {
     /// A case with this name begins.
     Case(&'t str),

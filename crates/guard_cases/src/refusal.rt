@@ -2,7 +2,7 @@
 use std::alloc::AllocError;
 
 /// What does not fit at a line.
-#[derive(Clone, Copy, Debug, PartialEq, Eq)]
+#[derive(Clone, Copy)]
 pub enum Misfit {
     /// The table has no case at all.
     NoCase,
@@ -36,7 +36,7 @@ impl Misfit {
 }
 
 /// Why bytes are no table, or none that was read.
-#[derive(Clone, Copy, Debug, PartialEq, Eq)]
+#[derive(Clone, Copy)]
 pub enum TableRefusal {
     /// The first line that does not fit, from 1.
     Unfit { line: u64, misfit: Misfit },

@@ -11,14 +11,14 @@ use std::alloc::{AllocError, Global};
 const TABLE_LIMIT: u64 = 1 << 28;
 
 /// Whether each case of a table came out as wanted.
-#[derive(Clone, Copy, Debug, PartialEq, Eq)]
+#[derive(Clone, Copy, PartialEq)]
 pub enum Verdict {
     Agree,
     Differ,
 }
 
 /// How many cases came out as wanted, and how many did not.
-#[derive(Clone, Copy, Debug)]
+#[derive(Clone, Copy)]
 struct Tally {
     agree: u64,
     differ: u64,

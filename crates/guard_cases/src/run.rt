@@ -6,7 +6,7 @@ use std::alloc::{AllocError, Global};
 use value_compare::RegexMaker;
 
 /// What came of a call.
-#[derive(Debug, Drop)]
+#[derive(Drop)]
 pub struct Ran {
     pub status: u8,
     pub out: Vec<u8>,

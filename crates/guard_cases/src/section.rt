@@ -8,7 +8,7 @@ use crate::refusal::{Misfit, TableRefusal};
 const MARK: &[u8] = b"@@ ";
 
 /// A heading with what stands behind it.
-#[derive(Clone, Copy, Debug)]
+#[derive(Clone, Copy)]
 pub struct Section<'t> {
     /// The number of the heading's line, from 1.
     pub line: u64,
@@ -40,7 +40,7 @@ impl Section<'_> {
 }
 
 /// The sections of a table, in order.
-#[derive(Debug, Drop)]
+#[derive(Drop)]
 pub struct Sections<'t> {
     /// What is left of the table: nothing, or a heading and what follows.
     rest: &'t [u8],

@@ -7,7 +7,7 @@ use std::alloc::Global;
 use std::collections::BTreeSet;
 
 /// The part that was read last, and so what may come next.
-#[derive(Clone, Copy, Debug, PartialEq, Eq)]
+#[derive(Clone, Copy)]
 enum Stage {
     Note,
     Case,
