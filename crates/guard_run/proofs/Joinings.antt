@@ -1,21 +1,18 @@
 -- A template becomes the data tree: by itself, or with parameters that were loaded. By the cases of whether there are some.
-use Rattle.std.proofs.Common.{◌≡◌, ℕ, List, MatchResult, Result, Ok, Err, Option, Some, None, ap, inl, inr, refl, string_bytes, subst, ◌∙◌}
-use Rattle.std.specs.Prelude.{IsErrAnd}
+use Rattle.std.proofs.Common.{◌≡◌, ℕ, List, Option, Some, None, ap, inl, inr, refl, string_bytes, subst, ◌∙◌}
 use Rattle.doc_values.specs.Tree.{Forest}
 use Rattle.report_text.specs.Texts.{Parameters}
 use Rattle.guard_ends.specs.Inputs.{IsTemplate, RefusesData, format_of}
-use Rattle.guard_ends.specs.Order.{Alone, Contents, Inputs, Merging, Point, Reading, Refusing, WithParams, Work}
+use Rattle.guard_ends.specs.Order.{Alone, Contents, Inputs, Merging, Point, Reading, WithParams, Work}
 use Rattle.guard_ends.specs.declared.ends.Which.TheVariants as file
 use Rattle.guard_ends.specs.declared.format.Format.{Format}
-use Rattle.guard_run.specs.code.Inputs.{AreAlone, ReadingSources, WithPatterns, inputs_of}
-use Rattle.guard_run.specs.code.Joined.{AreJoined, AreMerged, AreParams, IsJoinedWith, JoiningInputs, JoiningParams, LoadingParams, Nowhere, ReadingParams, WithLoaded, with_data}
-use Rattle.guard_run.specs.code.Stops.{IsNotRead, IsStop, NoneRose}
-use Rattle.guard_run.specs.declared.inputs.DataText.{DataText}
-use Rattle.guard_run.specs.declared.inputs.Inputs as code
-use Rattle.guard_run.specs.declared.inputs.Sources.{Sources}
-use Rattle.guard_run.specs.declared.stop.Stop.{Stop}
-use Rattle.guard_run.proofs.Loads.{text-data}
-use Rattle.guard_run.proofs.Outcomes.{IsStop-more, as-rose, at-exit}
+use Rattle.guard_inputs.specs.code.Inputs.{AreAlone, inputs_of}
+use Rattle.guard_inputs.specs.code.Joined.{AreJoined, AreParams, LoadingParams, ReadingParams, WithLoaded, with_data}
+use Rattle.guard_inputs.specs.declared.inputs.DataText.{DataText}
+use Rattle.guard_inputs.specs.declared.inputs.Inputs as code
+use Rattle.guard_inputs.specs.declared.inputs.Sources.{Sources}
+use Rattle.guard_inputs.proofs.Loads.{text-data}
+use Rattle.guard_run.specs.code.Stages.{JoiningInputs, ReadingSources, WithPatterns}
 use Rattle.guard_run.proofs.Stages.{merging-more, template-read}
 
 module _ (told : Contents) (template : List ℕ) (tree : Forest) where
@@ -64,26 +61,3 @@ pub alone-comes : (sources : Sources) (inputs : code.Inputs) (GoesOn : Inputs �
 alone-comes sources inputs GoesOn are p came =
     template-read sources Alone GoesOn inputs are p
     (joined-comes None (inputs_of inputs) inputs GoesOn (ap (λ (i : Inputs). i.texts.params) are.same) refl p came)
-
--- parameters that were read, and what comes of merging them; where they are refused, the work stops
-module _ (params : DataText) (inputs : Inputs) (text : List ℕ) (is : text ≡ string_bytes params.text) where
-  abbrev Joins : Result code.Inputs Stop → Type 0
-  Joins r = MatchResult r (IsJoinedWith params inputs) (IsStop (JoiningParams (ReadingParams params) inputs Nowhere) NoneRose NoneRose)
-
-  pub params-merged : (read : Forest) → IsTemplate params.format text read → (r : Result code.Inputs Stop)
-      → MatchResult r (AreMerged text read inputs) (IsStop (JoiningParams (Merging text read) inputs Nowhere) NoneRose NoneRose) → Joins r
-  params-merged read template (Ok joined) merged =
-      (read, subst (λ (b : List ℕ). IsTemplate params.format b read) is template, subst (λ (b : List ℕ). AreMerged b read inputs joined) is merged)
-  params-merged read template (Err s) stopped =
-      IsStop-more (JoiningParams (Merging (string_bytes params.text) read) inputs Nowhere) (JoiningParams (ReadingParams params) inputs Nowhere)
-      NoneRose NoneRose NoneRose NoneRose
-      (λ p merging. inr (read, subst (λ (b : List ℕ). IsTemplate params.format b read) is template, merging)) (as-rose NoneRose) (as-rose NoneRose) s
-      (subst (λ (b : List ℕ). IsStop (JoiningParams (Merging b read) inputs Nowhere) NoneRose NoneRose s) is stopped)
-
-  pub params-refused : (r : Result code.Inputs Stop) (s : Stop) → IsErrAnd r (λ (y : Stop). y ≡ s) → IsNotRead (RefusesData file.Params params.format) text s → Joins r
-  params-refused r s err refused =
-      at-exit (IsJoinedWith params inputs) (IsStop (JoiningParams (ReadingParams params) inputs Nowhere) NoneRose NoneRose) r s err
-      (IsStop-more (Refusing (RefusesData file.Params params.format) (string_bytes params.text)) (JoiningParams (ReadingParams params) inputs Nowhere)
-      NoneRose NoneRose NoneRose NoneRose
-      (λ p why. inl why) (as-rose NoneRose) (as-rose NoneRose) s
-      (subst (λ (b : List ℕ). IsNotRead (RefusesData file.Params params.format) b s) is refused))

@@ -1,12 +1,8 @@
 mod Accepted
 mod Closing
 mod Joinings
-mod Loads
-mod NotMerged
 mod Outcomes
 mod PrintedLines
-mod Plainness
-mod Refusing
 mod SaidCases
 mod Stages
 mod Testings

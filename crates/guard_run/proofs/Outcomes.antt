@@ -1,22 +1,21 @@
 -- What comes of work, as it comes to more. By the cases of what stops it.
-use Rattle.std.proofs.Common.{◌≡◌, ◌≤◌, ℕ, List, [], Bool, Result, Ok, Err, MatchResult, refl, ap, ap₂, sym, subst, arith, inl, inr, ◌∙◌, if◌then◌else◌}
-use Rattle.std.proofs.lemmas.Result.{err_from_is_err_and}  -- what the exit of a `?` returns
-use Rattle.std.specs.Prelude.{IsErrAnd}
+use Rattle.std.proofs.Common.{◌≡◌, ℕ, List, [], Bool, Result, Ok, Err, refl, ap, ap₂, ◌∙◌, if◌then◌else◌}
 use Rattle.std.specs.List.{list_any}
 use Rattle.rule_meaning.specs.Locations.{World}
 use Rattle.rule_meaning.specs.Verdicts.{is_fail}
-use Rattle.guard_ends.specs.Order.{Ending, Ends, Loads, Makes, Point, Work, how_judged, judged, judged_by, usage}
+use Rattle.guard_ends.specs.Order.{Ending, Ends, Point, Work, how_judged, judged, judged_by, usage}
 use Rattle.guard_ends.specs.Report.{Reporting}
 use Rattle.report_text.specs.Texts.{Texts}
 use Rattle.guard_ends.specs.Reported.{verdicts_of}
 use Rattle.guard_ends.specs.declared.ends.End.{End}
 use Rattle.guard_ends.specs.declared.ends.End.TheVariants as end_is
+use Rattle.guard_inputs.specs.code.Refusals.{bytes_of, said}
+use Rattle.guard_inputs.specs.code.Stops.{IsStop, NoneRose}
+use Rattle.guard_inputs.specs.declared.stop.Stop.{Stop}
+use Rattle.guard_inputs.specs.declared.stop.Stop.TheVariants as stop
+use Rattle.guard_inputs.proofs.Stopping.{IsStop-more}
 use Rattle.guard_run.specs.code.Outcome.{IsOutcome, IsOutcomeAt, ended}
-use Rattle.guard_run.specs.code.Refusals.{bytes_of, said}
-use Rattle.guard_run.specs.code.Stops.{IsStop, NoneRose, Rose}
 use Rattle.guard_run.specs.declared.done.Done.{Done}
-use Rattle.guard_run.specs.declared.stop.Stop.{Stop}
-use Rattle.guard_run.specs.declared.stop.Stop.TheVariants as stop
 
 module _
     (Comes More : Work)
@@ -25,35 +24,9 @@ module _
     (files : (name : List ℕ) → FileRose name → MoreFile name)
     (patterns : (text : List ℕ) → PatternRose text → MorePattern text)
   where
-    pub IsStop-more : (s : Stop) → IsStop Comes FileRose PatternRose s → IsStop More MoreFile MorePattern s
-    IsStop-more stop.Usage is = more (Ends usage) is
-    IsStop-more (stop.Refused r) is = more (Ends (said r)) is
-    IsStop-more (stop.Unread which) is = (is.0, more (Loads which is.0) is.1, files is.0 is.2)
-    IsStop-more stop.Unmade is = (is.0, more (Makes is.0) is.1, patterns is.0 is.2)
-    IsStop-more stop.Memory is = tt
-
     pub IsOutcome-more : (o : Result Done Stop) → IsOutcome Comes FileRose PatternRose o → IsOutcome More MoreFile MorePattern o
     IsOutcome-more (Ok done) is = more (Ends (ended done)) is
-    IsOutcome-more (Err s) is = IsStop-more s is
-
--- where no count rose, nothing is said of what rose
-pub none-rose : (R : List ℕ → Type 0) (name : List ℕ) → NoneRose name → R name
-none-rose R name none = absurd none
-
-pub as-rose : (R : List ℕ → Type 0) (name : List ℕ) → R name → R name
-as-rose R name rose = rose
-
--- a rise since later counts, that had not fallen, is one since the earlier counts
-pub rose-since : (before mid after : List ℕ → ℕ) → ((name : List ℕ) → before name ≤ mid name) → (name : List ℕ) → Rose mid after name → Rose before after name
-rose-since before mid after kept name (inl more) = let k : before name ≤ mid name = kept name in inl (omega (arith, k, more))
-rose-since before mid after kept name (inr most) = inr most
-
--- what `?` returns is what it was given
-pub at-exit : {T : Type 0} → (Good : T → Type 0) (Bad : Stop → Type 0) (r : Result T Stop) (s : Stop) → IsErrAnd r (λ (y : Stop). y ≡ s) → Bad s
-    → MatchResult r Good Bad
-at-exit Good Bad r s err bad =
-    let p = err_from_is_err_and r err in
-    subst (λ o. MatchResult o Good Bad) (sym p.1) (subst Bad (sym p.2) bad)
+    IsOutcome-more (Err s) is = IsStop-more Comes More FileRose MoreFile PatternRose MorePattern more files patterns s is
 
 -- work that comes to no load and no making of a pattern comes to nothing but an end
 ended-stop : (Comes : Work) (s : Stop) → IsStop Comes NoneRose NoneRose s → IsStop (Ending (λ e. Comes (Ends e))) NoneRose NoneRose s

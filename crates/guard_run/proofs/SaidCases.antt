@@ -20,8 +20,8 @@ use Rattle.guard_ends.specs.Reported.{verdicts_of, world_over}
 use Rattle.guard_ends.specs.Tests.{AreFound, IsFound}
 use Rattle.guard_ends.specs.declared.ends.End.{End}
 use Rattle.guard_ends.specs.declared.ends.End.TheVariants as end_is
+use Rattle.guard_inputs.specs.code.Refusals.{bytes_of}
 use Rattle.guard_run.specs.code.Outcome.{ended}
-use Rattle.guard_run.specs.code.Refusals.{bytes_of}
 use Rattle.guard_run.specs.code.Tested.{AreSaid, IsSaid}
 use Rattle.guard_run.specs.declared.done.Done.{Done}
 

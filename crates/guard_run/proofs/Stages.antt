@@ -5,28 +5,22 @@ use Rattle.doc_values.specs.Tree.{Forest}
 use Rattle.guard_syntax.specs.Syntax.{File}
 use Rattle.report_text.specs.Texts.{Parameters}
 use Rattle.rule_names.specs.code.Files.{file_of}
-use Rattle.guard_ends.specs.Inputs.{IsProof, IsTemplate, RefusesData, RefusesProof, RefusesRules, format_of}
-use Rattle.guard_ends.specs.Order.{Contents, Ending, Inputs, IsChecked, IsContent, Joining, Loading, LoadingTexts, MakingPatterns, Merging, OverFiles, Point, Reading, ReadingInputs, Refusing, WithParams, Work}
+use Rattle.guard_ends.specs.Inputs.{IsProof, IsTemplate, RefusesData, RefusesProof, format_of}
+use Rattle.guard_ends.specs.Order.{Contents, Ending, Inputs, IsChecked, IsContent, Joining, LoadingTexts, MakingPatterns, Merging, OverFiles, Point, Reading, ReadingInputs, Refusing, WithParams, Work}
 use Rattle.guard_ends.specs.declared.ends.Which.{Which}
 use Rattle.guard_ends.specs.declared.ends.Which.TheVariants as file
 use Rattle.guard_ends.specs.declared.format.Format.{Format}
-use Rattle.guard_run.specs.code.Inputs.{AreAlone, AreLoaded, ReadingSources, WithPatterns, inputs_of, inputs_over}
+use Rattle.guard_inputs.specs.code.Inputs.{AreAlone, AreLoaded, inputs_of, inputs_over}
+use Rattle.guard_inputs.specs.code.Loading.{RefusesText, limit_of}
+use Rattle.guard_inputs.specs.declared.inputs.Inputs as code
+use Rattle.guard_inputs.specs.declared.inputs.Sources.{Sources}
+use Rattle.guard_inputs.proofs.Loads.{loading-same, text-data}
+use Rattle.guard_run.specs.code.Stages.{JoiningInputs, ReadingSources, WithPatterns}
 use Rattle.guard_run.specs.code.Jobs.{Doing}
-use Rattle.guard_run.specs.code.Joined.{JoiningInputs}
-use Rattle.guard_run.specs.code.Loading.{RefusesText, limit_of}
-use Rattle.guard_run.specs.declared.inputs.Inputs as code
-use Rattle.guard_run.specs.declared.inputs.Sources.{Sources}
 use Rattle.guard_run.specs.declared.job.Task.{Task}
 use Rattle.guard_run.specs.declared.job.Task.TheVariants as task
-use Rattle.guard_run.proofs.Loads.{loading-same, text-data}
 
 module _ (beside : Which) (told : Contents) (rules name : List ℕ) where
-  -- rules are loaded and read, and the work goes on with what is beside them
-  pub rules-before : (GoesOn : List ℕ → File → List ℕ → Work)
-      → (p : Point) → Loading file.Rules told rules (Refusing RefusesRules) p → LoadingTexts beside told rules name GoesOn p
-  rules-before GoesOn p (inl load) = inl load
-  rules-before GoesOn p (inr (source, content, refused)) = inr (source, content, inl refused)
-
   -- what comes before the texts are loaded: what is no text is refused in each format
   pub texts-before : (f : Format) (GoesOn : List ℕ → File → List ℕ → Forest → Work) → limit_of beside ≡ template_limit
       → (p : Point) → LoadingTexts beside told rules name (λ source read. Refusing (RefusesText beside)) p

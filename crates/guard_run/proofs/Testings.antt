@@ -5,12 +5,13 @@ use Rattle.guard_ends.specs.Inputs.{AreCases, RefusesCases, format_of}
 use Rattle.guard_ends.specs.Order.{Contents, Ending, IsTested, LoadingTexts, MakingPatterns, OfTests, Point, Reading, ReadingTests, Refusing}
 use Rattle.guard_ends.specs.declared.ends.Which.TheVariants as file
 use Rattle.guard_ends.specs.declared.format.Format.{Format}
-use Rattle.guard_run.specs.code.Inputs.{AreLoaded}
-use Rattle.guard_run.specs.code.Loading.{RefusesText}
-use Rattle.guard_run.specs.code.Tested.{AreTests, RefusingTests, Testing, TestingSources, cases_of}
-use Rattle.guard_run.specs.declared.inputs.Rules.{Rules}
-use Rattle.guard_run.specs.declared.inputs.Sources.{Sources}
-use Rattle.guard_run.specs.declared.tests.Tests as code
+use Rattle.guard_inputs.specs.code.Inputs.{AreLoaded}
+use Rattle.guard_inputs.specs.code.Loading.{RefusesText}
+use Rattle.guard_inputs.specs.code.Tests.{AreTests, RefusingTests, cases_of}
+use Rattle.guard_inputs.specs.declared.inputs.Rules.{Rules}
+use Rattle.guard_inputs.specs.declared.inputs.Sources.{Sources}
+use Rattle.guard_inputs.specs.declared.tests.Tests as code
+use Rattle.guard_run.specs.code.Tested.{Testing, TestingSources}
 use Rattle.guard_run.proofs.Stages.{texts-before, texts-loaded}
 
 module _ (told : Contents) (rules tests : List ℕ) where

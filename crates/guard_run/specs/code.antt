@@ -1,12 +1,8 @@
 -- What serves the code and its proofs alone: nobody has to believe it.
+pub mod Drilled
 pub mod Forms
-pub mod Inputs
 pub mod Jobs
-pub mod Joined
-pub mod Loading
-pub mod Merging
 pub mod Outcome
-pub mod Refusals
-pub mod Stops
+pub mod Stages
 pub mod Tested
 pub mod Writing

@@ -2,8 +2,8 @@
 ghost use Rattle.std.specs.Prelude.{◌≡◌, true};
 ghost use Rattle.guard_ends.specs.End.{is_reported};
 
-use crate::written::Written;
 use guard_ends::End;
+use guard_inputs::Written;
 
 /// How a call ends whose work is done, what out takes then, and what err takes behind that.
 #[derive(Drop)]

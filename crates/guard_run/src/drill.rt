@@ -3,20 +3,20 @@ ghost use Rattle.std.specs.Prelude.{◌≤◌, MatchResult};
 ghost use Rattle.guard_ends.specs.Drill.{drill_report, drill_rules};
 ghost use Rattle.guard_ends.specs.Inputs.{RefusesRules};
 ghost use Rattle.guard_ends.specs.Order.{Alone, Ending, IsJudged, OfDrill};
-ghost use Rattle.guard_run.specs.code.Inputs.{AreOfDrill, ReadingSources, WithPatterns, inputs_of};
+ghost use Rattle.guard_inputs.specs.code.Inputs.{inputs_of};
+ghost use Rattle.guard_inputs.specs.code.Stops.{IsNotRead};
+ghost use Rattle.guard_run.specs.code.Drilled.{AreOfDrill};
 ghost use Rattle.guard_run.specs.code.Outcome.{IsOutcomeAt};
-ghost use Rattle.guard_run.specs.code.Stops.{IsNotRead};
+ghost use Rattle.guard_run.specs.code.Stages.{ReadingSources, WithPatterns};
 
 use crate::done::Done;
-use crate::inputs::{DataText, Inputs, Ready, Sources};
-use crate::patterns::make_patterns;
-use crate::prepare::read_template;
 use crate::report::Form;
-use crate::rules::read_rules;
-use crate::stop::Stop;
 use crate::validate::report_on;
 use guard_drill::{DRILL_RULES, drill_template};
 use guard_ends::Format;
+use guard_inputs::{
+    DataText, Inputs, Ready, Sources, Stop, make_patterns, read_rules, read_template,
+};
 use std::alloc::Global;
 use value_compare::{Pattern, PatternFault, PatternMaker};
 

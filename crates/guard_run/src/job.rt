@@ -1,6 +1,6 @@
 //! What is asked for over files: their names, and what is to be done with what they hold.
 ghost use Rattle.std.specs.Prelude.{◌≡◌, option_map, string_bytes, if◌then◌else◌};
-ghost use Rattle.guard_run.specs.code.Jobs.{name_in};
+ghost use Rattle.guard_inputs.specs.code.Joined.{name_in};
 
 /// What is done with inputs.
 #[derive(Clone, Copy)]

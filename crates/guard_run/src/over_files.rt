@@ -2,24 +2,23 @@
 ghost use Rattle.std.specs.Prelude.{◌≡◌, ◌≤◌, ◌<◌, ◌^◌, ℕ, List, None};
 ghost use Rattle.doc_values.specs.Tree.{size};
 ghost use Rattle.guard_ends.specs.Order.{WithParams};
-ghost use Rattle.guard_run.specs.code.Inputs.{ReadingSources, WithPatterns, inputs_of};
-ghost use Rattle.guard_run.specs.code.Jobs.{Doing, WorkOfJob, name_in};
-ghost use Rattle.guard_run.specs.code.Joined.{JoiningInputs};
+ghost use Rattle.guard_inputs.specs.code.Inputs.{inputs_of};
+ghost use Rattle.guard_inputs.specs.code.Joined.{name_in};
+ghost use Rattle.guard_inputs.specs.code.Stops.{NoneRose, Rose};
+ghost use Rattle.guard_run.specs.code.Jobs.{Doing, WorkOfJob};
 ghost use Rattle.guard_run.specs.code.Outcome.{IsOutcome, IsOutcomeBy};
-ghost use Rattle.guard_run.specs.code.Stops.{NoneRose, Rose};
+ghost use Rattle.guard_run.specs.code.Stages.{JoiningInputs, ReadingSources, WithPatterns};
 
 use crate::check::check_evidence;
 use crate::done::Done;
 use crate::evidence::report_with_evidence;
-use crate::inputs::{Inputs, Ready, Sources};
 use crate::job::{Job, Task};
-use crate::params::{join, load_params};
-use crate::patterns::make_patterns;
-use crate::prepare::{load_sources, read_template};
 use crate::report::Form;
-use crate::stop::Stop;
 use crate::validate::report_on;
 use guard_ends::Which;
+use guard_inputs::{
+    Inputs, Ready, Sources, Stop, join, load_params, load_sources, make_patterns, read_template,
+};
 use guard_io::Files;
 use std::alloc::Global;
 use value_compare::PatternMaker;

@@ -2,15 +2,13 @@
 ghost use Rattle.std.specs.Prelude.{◌≡◌, ◌≤◌, ℕ, List, length};
 ghost use Rattle.doc_values.specs.Limits.{rules_limit};
 ghost use Rattle.guard_ends.specs.Order.{OfSyntax, Printing};
+ghost use Rattle.guard_inputs.specs.code.Stops.{NoneRose, Rose};
 ghost use Rattle.guard_run.specs.code.Outcome.{IsOutcome, IsOutcomeAt};
-ghost use Rattle.guard_run.specs.code.Stops.{NoneRose, Rose};
 
 use crate::done::Done;
-use crate::load::load_text;
 use crate::passed::passed;
-use crate::stop::Stop;
-use crate::syntax::syntax_of;
 use guard_ends::Which;
+use guard_inputs::{Stop, load_text, syntax_of};
 use guard_io::Files;
 use rule_printer::print_rules;
 use std::alloc::Global;

@@ -4,8 +4,8 @@ ghost use Rattle.guard_ends.specs.Order.{written};
 ghost use Rattle.guard_run.specs.code.Outcome.{ended};
 
 use crate::done::Done;
-use crate::written::Written;
 use guard_ends::End;
+use guard_inputs::Written;
 
 /// What is done where out takes a text, and nothing is judged.
 pub(crate) fn passed(text: String) -> Done

@@ -19,10 +19,10 @@ ghost use Rattle.guard_ends.specs.Report as reports;
 ghost use Rattle.guard_ends.specs.Reported.{verdicts_of, world_over};
 ghost use Rattle.guard_run.specs.code.Forms.{report_in};
 
-use crate::inputs::{Inputs, Ready};
 use evidence_lookups::line_context::LineContext;
 use evidence_lookups::tables::FileTables;
 use evidence_report::{verdicts_told, write_drill, write_report};
+use guard_inputs::{Inputs, Ready};
 use guard_io::CleanSink;
 use guard_syntax::Verdict;
 use report_text::{LinedTexts, ReportFault};

@@ -2,18 +2,14 @@
 ghost use Rattle.std.specs.Prelude.{◌≡◌, ◌≤◌, ℕ, List, string_bytes};
 ghost use Rattle.guard_ends.specs.Inputs.{AreGenerated, RefusesGenerated};
 ghost use Rattle.guard_ends.specs.Order.{Ending, Generating, OfTemplate, Reading, written};
+ghost use Rattle.guard_inputs.specs.code.Stops.{NoneRose, Rose};
 ghost use Rattle.guard_run.specs.code.Outcome.{IsOutcome, IsOutcomeAt};
-ghost use Rattle.guard_run.specs.code.Stops.{NoneRose, Rose};
 
 use crate::done::Done;
-use crate::inputs::DataText;
-use crate::load::load_data;
 use crate::passed::passed;
-use crate::refused::text_too_long;
-use crate::stop::Stop;
-use crate::tree::read_tree;
 use doc_values::Doc;
 use guard_ends::Which;
+use guard_inputs::{DataText, Stop, load_data, read_tree, text_too_long};
 use guard_io::Files;
 use rule_generator::{GenerateRefusal, generate};
 use std::alloc::Global;

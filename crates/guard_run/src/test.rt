@@ -8,21 +8,18 @@ ghost use Rattle.rule_meaning.specs.FunctionMeaning.{IsAnswering};
 ghost use Rattle.rule_meaning.specs.Locations.{Answers};
 ghost use Rattle.guard_ends.specs.Order.{Ending, IsTested, OfTests, how_tested};
 ghost use Rattle.guard_ends.specs.Reported.{verdicts_of, world_over};
+ghost use Rattle.guard_inputs.specs.code.Refusals.{bytes_of};
+ghost use Rattle.guard_inputs.specs.code.Stops.{NoneRose, Rose};
+ghost use Rattle.guard_inputs.specs.code.Tests.{cases_of, rules_of};
 ghost use Rattle.guard_run.specs.code.Outcome.{IsOutcome, IsOutcomeAt, IsOutcomeBy};
-ghost use Rattle.guard_run.specs.code.Refusals.{bytes_of};
-ghost use Rattle.guard_run.specs.code.Stops.{NoneRose, Rose};
-ghost use Rattle.guard_run.specs.code.Tested.{AreSaid, IsSaid, Testing, TestingSources, cases_of, rules_of};
+ghost use Rattle.guard_run.specs.code.Tested.{AreSaid, IsSaid, Testing, TestingSources};
 
 use crate::done::Done;
-use crate::inputs::Sources;
-use crate::patterns::make_patterns;
-use crate::prepare::load_sources;
-use crate::read_tests::read_tests;
-use crate::stop::Stop;
-use crate::tests::{ReadyTests, Tests};
 use crate::verdicts::verdicts_over;
-use crate::written::Written;
 use guard_ends::{End, Which};
+use guard_inputs::{
+    ReadyTests, Sources, Stop, Tests, Written, load_sources, make_patterns, read_tests,
+};
 use guard_io::{CleanSink, Files};
 use guard_syntax::Verdict;
 use guard_testfile::{Agreement, Case, JudgedCase, write_case, write_summary};

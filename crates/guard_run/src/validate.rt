@@ -1,17 +1,15 @@
 //! Inputs are judged, and the report is made: `validate`, and a drill.
 ghost use Rattle.std.specs.Prelude.{◌≡◌, [], if◌then◌else◌};
 ghost use Rattle.guard_ends.specs.Order.{Ending, IsJudged};
-ghost use Rattle.guard_run.specs.code.Inputs.{inputs_of};
+ghost use Rattle.guard_inputs.specs.code.Inputs.{inputs_of};
+ghost use Rattle.guard_inputs.specs.code.Refusals.{bytes_of};
 ghost use Rattle.guard_run.specs.code.Forms.{report_in};
 ghost use Rattle.guard_run.specs.code.Outcome.{IsOutcomeAt};
-ghost use Rattle.guard_run.specs.code.Refusals.{bytes_of};
 
 use crate::done::Done;
-use crate::inputs::Ready;
 use crate::report::{Form, Judgement, judge};
-use crate::stop::Stop;
-use crate::written::Written;
 use guard_ends::End;
+use guard_inputs::{Ready, Stop, Written};
 use query_steps::one_answer_over_locations;
 use std::alloc::Global;
 

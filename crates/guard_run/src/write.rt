@@ -8,9 +8,8 @@ ghost use Rattle.guard_run.specs.code.Outcome.{IsOutcomeBy, IsStopBy, ended};
 ghost use Rattle.guard_run.specs.code.Writing.{Closed, Said, SaidMemory};
 
 use crate::done::Done;
-use crate::refused::Refused;
-use crate::stop::Stop;
 use guard_ends::{End, Pipe, Which};
+use guard_inputs::{Refused, Stop};
 use guard_io::{Sink, SinkFault};
 
 /// Writes what came of a call, on out or on err.

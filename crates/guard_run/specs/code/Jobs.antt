@@ -1,15 +1,10 @@
 -- What is asked for over files, by the types of the code.
-use Rattle.std.specs.Prelude.{ℕ, List, Option, option_map}
-use Rattle.std.specs.Borrow.{Bor}
 use Rattle.guard_ends.specs.Order.{Contents, Ending, Inputs, IsJudged, IsJudgedBy, OfEvidence, OverFiles, Work}
 use Rattle.guard_ends.specs.Report.{report}
+use Rattle.guard_inputs.specs.code.Joined.{name_in}
 use Rattle.guard_run.specs.declared.job.Job.{Job}
 use Rattle.guard_run.specs.declared.job.Task.{Task}
 use Rattle.guard_run.specs.declared.job.Task.TheVariants as task
-
--- a name, if there is one
-abbrev pub name_in : Option (Bor (List ℕ)) → Option (List ℕ)
-name_in = option_map (λ name. name.now)
 
 -- what is done with inputs
 abbrev pub Doing : Task → Contents → Inputs → Work

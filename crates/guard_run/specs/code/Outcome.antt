@@ -2,10 +2,10 @@
 use Rattle.std.specs.Prelude.{ℕ, List, Result, MatchResult}
 use Rattle.guard_ends.specs.End.{Counts}
 use Rattle.guard_ends.specs.Order.{Ended, Ends, Work}
-use Rattle.guard_run.specs.code.Refusals.{bytes_of}
-use Rattle.guard_run.specs.code.Stops.{IsStop, NoneRose, Rose}
+use Rattle.guard_inputs.specs.code.Refusals.{bytes_of}
+use Rattle.guard_inputs.specs.code.Stops.{IsStop, NoneRose, Rose}
+use Rattle.guard_inputs.specs.declared.stop.Stop.{Stop}
 use Rattle.guard_run.specs.declared.done.Done.{Done}
-use Rattle.guard_run.specs.declared.stop.Stop.{Stop}
 
 -- the end of work that is done
 abbrev pub ended : Done → Ended

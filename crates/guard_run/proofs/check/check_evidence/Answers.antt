@@ -2,13 +2,14 @@ use Rattle.std.proofs.Common.{ℕ, List, inl, inr}
 use Rattle.guard_ends.specs.Inputs.{RefusesProof}
 use Rattle.guard_ends.specs.Order.{Contents, Ending, Ends, Inputs, IsChecked, Loading, OfEvidence, Point, Refusing, Work}
 use Rattle.guard_ends.specs.declared.ends.Which.TheVariants as file
-use Rattle.guard_run.specs.code.Inputs.{inputs_of}
-use Rattle.guard_run.specs.code.Loading.{RefusesLength}
+use Rattle.guard_inputs.specs.code.Inputs.{inputs_of}
+use Rattle.guard_inputs.specs.code.Loading.{RefusesLength}
+use Rattle.guard_inputs.specs.code.Stops.{IsStop, NoneRose, Rose}
+use Rattle.guard_inputs.proofs.Loads.{long-proof, refused-more}
+use Rattle.guard_inputs.proofs.Stopping.{IsStop-more, as-rose, at-exit, none-rose}
 use Rattle.guard_run.specs.code.Outcome.{ended}
-use Rattle.guard_run.specs.code.Stops.{IsStop, NoneRose, Rose}
 use Rattle.guard_run.specs.declared.done.Done.{Done}
-use Rattle.guard_run.proofs.Loads.{long-proof, refused-more}
-use Rattle.guard_run.proofs.Outcomes.{IsOutcome-more, IsStop-more, as-rose, at-exit, none-rose}
+use Rattle.guard_run.proofs.Outcomes.{IsOutcome-more}
 use Rattle.guard_run.proofs.check.check_evidence.Goals as goal
 
 refused-before : (told : Contents) (name : List ℕ) (inputs : Inputs) (p : Point) → Loading file.Proof told name (Refusing RefusesProof) p → OfEvidence told name inputs p

@@ -5,10 +5,10 @@ use Rattle.guard_drill.proofs.TemplateLengths.{template-short}
 use Rattle.rule_names.specs.code.Files.{file_of}
 use Rattle.guard_ends.specs.Drill.{drill_rules}
 use Rattle.guard_ends.specs.Inputs.{IsRuleFile, RefusesRules}
-use Rattle.guard_run.specs.code.Inputs.{AreOfDrill}
-use Rattle.guard_run.specs.code.Stops.{IsNotRead}
-use Rattle.guard_run.specs.declared.stop.Stop.{Stop}
-use Rattle.guard_run.proofs.Outcomes.{at-exit}
+use Rattle.guard_inputs.specs.code.Stops.{IsNotRead}
+use Rattle.guard_inputs.specs.declared.stop.Stop.{Stop}
+use Rattle.guard_inputs.proofs.Stopping.{at-exit}
+use Rattle.guard_run.specs.code.Drilled.{AreOfDrill}
 use Rattle.guard_run.proofs.drill.drill_sources.Goals as goal
 
 pub invariant_of-result : goal.invariant_of-result

@@ -1,11 +1,13 @@
 use Rattle.std.proofs.Common.{ℕ, List, inl, inr, arith}
 use Rattle.guard_ends.specs.Drill.{drill_report}
 use Rattle.guard_ends.specs.Order.{Ending, Ends, Inputs, IsJudged, MakingPatterns, Work}
-use Rattle.guard_run.specs.code.Inputs.{WithPatterns, inputs_of}
+use Rattle.guard_inputs.specs.code.Inputs.{inputs_of}
+use Rattle.guard_inputs.specs.code.Stops.{IsStop, NoneRose, Rose}
+use Rattle.guard_inputs.proofs.Stopping.{IsStop-more, as-rose, at-exit}
+use Rattle.guard_run.specs.code.Stages.{WithPatterns}
 use Rattle.guard_run.specs.code.Outcome.{ended}
-use Rattle.guard_run.specs.code.Stops.{IsStop, NoneRose, Rose}
 use Rattle.guard_run.specs.declared.done.Done.{Done}
-use Rattle.guard_run.proofs.Outcomes.{IsOutcome-more, IsStop-more, as-rose, at-exit}
+use Rattle.guard_run.proofs.Outcomes.{IsOutcome-more}
 use Rattle.guard_run.proofs.Stages.{patterns-more}
 use Rattle.guard_run.proofs.drill.judge_inputs.Goals as goal
 

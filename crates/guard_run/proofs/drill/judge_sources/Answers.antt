@@ -3,12 +3,14 @@ use Rattle.guard_ends.specs.Drill.{drill_report}
 use Rattle.guard_ends.specs.Inputs.{RefusesData}
 use Rattle.guard_ends.specs.Order.{Alone, Ending, Ends, Inputs, IsJudged, Refusing, Work}
 use Rattle.guard_ends.specs.declared.ends.Which.TheVariants as file
-use Rattle.guard_run.specs.code.Inputs.{ReadingSources, WithPatterns, inputs_of}
+use Rattle.guard_inputs.specs.code.Inputs.{inputs_of}
+use Rattle.guard_inputs.specs.code.Stops.{IsStop, NoneRose}
+use Rattle.guard_inputs.proofs.Stopping.{IsStop-more, as-rose, at-exit}
+use Rattle.guard_run.specs.code.Stages.{ReadingSources, WithPatterns}
 use Rattle.guard_run.specs.code.Outcome.{ended}
-use Rattle.guard_run.specs.code.Stops.{IsStop, NoneRose}
 use Rattle.guard_run.specs.declared.done.Done.{Done}
 use Rattle.guard_run.proofs.Joinings.{alone-comes}
-use Rattle.guard_run.proofs.Outcomes.{IsOutcome-more, IsStop-more, as-rose, at-exit}
+use Rattle.guard_run.proofs.Outcomes.{IsOutcome-more}
 use Rattle.guard_run.proofs.drill.judge_sources.Goals as goal
 
 pub returns-in_err-inputs : goal.returns-in_err-inputs

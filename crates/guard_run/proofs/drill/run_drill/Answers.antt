@@ -7,12 +7,14 @@ use Rattle.guard_ends.specs.Inputs.{IsRuleFile, RefusesRules}
 use Rattle.guard_ends.specs.Order.{Alone, Ending, Ends, Inputs, IsJudged, Point, Reading, ReadingInputs, Refusing, Work}
 use Rattle.guard_ends.specs.declared.format.Format.{Format}
 use Rattle.guard_ends.specs.declared.format.Format.TheVariants.{Json}
-use Rattle.guard_run.specs.code.Inputs.{AreOfDrill, ReadingSources}
+use Rattle.guard_inputs.specs.code.Stops.{IsStop, NoneRose}
+use Rattle.guard_inputs.specs.declared.inputs.Sources.{Sources}
+use Rattle.guard_inputs.proofs.Stopping.{IsStop-more, as-rose, at-exit}
+use Rattle.guard_run.specs.code.Drilled.{AreOfDrill}
+use Rattle.guard_run.specs.code.Stages.{ReadingSources}
 use Rattle.guard_run.specs.code.Outcome.{ended}
-use Rattle.guard_run.specs.code.Stops.{IsStop, NoneRose}
 use Rattle.guard_run.specs.declared.done.Done.{Done}
-use Rattle.guard_run.specs.declared.inputs.Sources.{Sources}
-use Rattle.guard_run.proofs.Outcomes.{IsOutcome-more, IsStop-more, as-rose, at-exit, ended-outcome}
+use Rattle.guard_run.proofs.Outcomes.{IsOutcome-more, ended-outcome}
 use Rattle.guard_run.proofs.drill.run_drill.Goals as goal
 
 -- what is done with the inputs

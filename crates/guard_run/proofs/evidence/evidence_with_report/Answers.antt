@@ -7,12 +7,13 @@ use Rattle.rule_meaning.specs.Locations.{Answers}
 use Rattle.guard_ends.specs.Order.{Ending, Ends, Inputs, IsJudgedBy, Work}
 use Rattle.guard_ends.specs.Report.{report}
 use Rattle.guard_ends.specs.Reported.{world_over}
-use Rattle.guard_run.specs.code.Inputs.{inputs_of}
+use Rattle.guard_inputs.specs.code.Inputs.{inputs_of}
+use Rattle.guard_inputs.specs.code.Stops.{IsStop, NoneRose}
+use Rattle.guard_inputs.specs.declared.stop.Stop.TheVariants as stop
+use Rattle.guard_inputs.proofs.Stopping.{at-exit}
 use Rattle.guard_run.specs.code.Outcome.{ended}
-use Rattle.guard_run.specs.code.Stops.{IsStop, NoneRose}
 use Rattle.guard_run.specs.declared.done.Done.{Done}
-use Rattle.guard_run.specs.declared.stop.Stop.TheVariants as stop
-use Rattle.guard_run.proofs.Outcomes.{at-exit, judged-with}
+use Rattle.guard_run.proofs.Outcomes.{judged-with}
 use Rattle.guard_run.proofs.PrintedLines.{accepted-shapes}
 use Rattle.guard_run.proofs.evidence.evidence_with_report.Goals as goal
 

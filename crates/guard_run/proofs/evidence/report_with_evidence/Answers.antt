@@ -1,11 +1,11 @@
 use Rattle.guard_ends.specs.Order.{Ending, Ends, IsJudgedBy, Work}
 use Rattle.guard_ends.specs.Report.{report}
-use Rattle.guard_run.specs.code.Inputs.{inputs_of}
+use Rattle.guard_inputs.specs.code.Inputs.{inputs_of}
+use Rattle.guard_inputs.specs.code.Stops.{IsStop, NoneRose}
+use Rattle.guard_inputs.specs.declared.stop.Stop.TheVariants as stop
+use Rattle.guard_inputs.proofs.Stopping.{at-exit}
 use Rattle.guard_run.specs.code.Outcome.{ended}
-use Rattle.guard_run.specs.code.Stops.{IsStop, NoneRose}
 use Rattle.guard_run.specs.declared.done.Done.{Done}
-use Rattle.guard_run.specs.declared.stop.Stop.TheVariants as stop
-use Rattle.guard_run.proofs.Outcomes.{at-exit}
 use Rattle.guard_run.proofs.evidence.report_with_evidence.Goals as goal
 
 pub evaluate-requires-clause-book : goal.evaluate-requires-clause-book

@@ -3,13 +3,15 @@ use Rattle.std.proofs.Common.{◌∙◌}
 use Rattle.guard_ends.specs.End.{Counts}
 use Rattle.guard_ends.specs.Order.{Ends, LoadingTexts, Refusing, WithParams, Work}
 use Rattle.guard_ends.specs.declared.ends.Which.TheVariants as file
-use Rattle.guard_run.specs.code.Inputs.{ReadingSources}
-use Rattle.guard_run.specs.code.Jobs.{Doing, WorkOfJob, name_in}
-use Rattle.guard_run.specs.code.Loading.{RefusesText}
+use Rattle.guard_inputs.specs.code.Joined.{name_in}
+use Rattle.guard_inputs.specs.code.Loading.{RefusesText}
+use Rattle.guard_inputs.specs.code.Stops.{NoneRose, Rose}
+use Rattle.guard_inputs.proofs.Stopping.{IsStop-more, as-rose, at-exit, none-rose, rose-since}
+use Rattle.guard_run.specs.code.Stages.{ReadingSources}
+use Rattle.guard_run.specs.code.Jobs.{Doing, WorkOfJob}
 use Rattle.guard_run.specs.code.Outcome.{IsStopBy, ended}
-use Rattle.guard_run.specs.code.Stops.{NoneRose, Rose}
 use Rattle.guard_run.specs.declared.done.Done.{Done}
-use Rattle.guard_run.proofs.Outcomes.{IsOutcome-more, IsStop-more, as-rose, at-exit, none-rose, rose-since}
+use Rattle.guard_run.proofs.Outcomes.{IsOutcome-more}
 use Rattle.guard_run.proofs.Stages.{loads-before, sources-loaded, sources-same}
 use Rattle.guard_run.proofs.over_files.run_over_files.Goals as goal
 

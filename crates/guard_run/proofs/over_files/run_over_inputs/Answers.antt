@@ -1,11 +1,13 @@
 use Rattle.std.proofs.Common.{inr}
 use Rattle.guard_ends.specs.Order.{Ends, Inputs, MakingPatterns, Work}
-use Rattle.guard_run.specs.code.Inputs.{WithPatterns, inputs_of}
+use Rattle.guard_inputs.specs.code.Inputs.{inputs_of}
+use Rattle.guard_inputs.specs.code.Stops.{IsStop, NoneRose, Rose}
+use Rattle.guard_inputs.proofs.Stopping.{IsStop-more, as-rose, at-exit, none-rose}
+use Rattle.guard_run.specs.code.Stages.{WithPatterns}
 use Rattle.guard_run.specs.code.Jobs.{Doing}
 use Rattle.guard_run.specs.code.Outcome.{ended}
-use Rattle.guard_run.specs.code.Stops.{IsStop, NoneRose, Rose}
 use Rattle.guard_run.specs.declared.done.Done.{Done}
-use Rattle.guard_run.proofs.Outcomes.{IsOutcome-more, IsStop-more, as-rose, at-exit, none-rose}
+use Rattle.guard_run.proofs.Outcomes.{IsOutcome-more}
 use Rattle.guard_run.proofs.Stages.{patterns-more}
 use Rattle.guard_run.proofs.over_files.run_over_inputs.Goals as goal
 

@@ -2,13 +2,15 @@ use Rattle.std.proofs.Common.{ap, inl, string_bytes}
 use Rattle.guard_ends.specs.Inputs.{RefusesData}
 use Rattle.guard_ends.specs.Order.{Ends, Inputs, Joining, Refusing, WithParams, Work}
 use Rattle.guard_ends.specs.declared.ends.Which.TheVariants as file
-use Rattle.guard_run.specs.code.Inputs.{ReadingSources, inputs_of}
-use Rattle.guard_run.specs.code.Jobs.{Doing, name_in}
-use Rattle.guard_run.specs.code.Joined.{JoiningInputs}
+use Rattle.guard_inputs.specs.code.Inputs.{inputs_of}
+use Rattle.guard_inputs.specs.code.Joined.{name_in}
+use Rattle.guard_inputs.specs.code.Stops.{IsStop, NoneRose, Rose}
+use Rattle.guard_inputs.proofs.Stopping.{IsStop-more, as-rose, at-exit, none-rose}
+use Rattle.guard_run.specs.code.Stages.{JoiningInputs, ReadingSources}
+use Rattle.guard_run.specs.code.Jobs.{Doing}
 use Rattle.guard_run.specs.code.Outcome.{ended}
-use Rattle.guard_run.specs.code.Stops.{IsStop, NoneRose, Rose}
 use Rattle.guard_run.specs.declared.done.Done.{Done}
-use Rattle.guard_run.proofs.Outcomes.{IsOutcome-more, IsStop-more, as-rose, at-exit, none-rose}
+use Rattle.guard_run.proofs.Outcomes.{IsOutcome-more}
 use Rattle.guard_run.proofs.Stages.{template-read}
 use Rattle.guard_run.proofs.over_files.run_over_sources.Goals as goal
 

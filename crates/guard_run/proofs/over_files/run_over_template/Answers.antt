@@ -3,14 +3,16 @@ use Rattle.std.proofs.Common.{Option, ◌∙◌}
 use Rattle.doc_values.specs.Tree.{Forest}
 use Rattle.report_text.specs.Texts.{Parameters}
 use Rattle.guard_ends.specs.Order.{Ends, Inputs, WithParams, Work}
-use Rattle.guard_run.specs.code.Inputs.{WithPatterns, inputs_of}
-use Rattle.guard_run.specs.code.Jobs.{Doing, name_in}
-use Rattle.guard_run.specs.code.Joined.{JoiningInputs, JoiningParams, LoadingParams, Nowhere, WithLoaded, with_data}
+use Rattle.guard_inputs.specs.code.Inputs.{inputs_of}
+use Rattle.guard_inputs.specs.code.Joined.{JoiningParams, LoadingParams, Nowhere, WithLoaded, name_in, with_data}
+use Rattle.guard_inputs.specs.code.Stops.{IsStop, NoneRose, Rose}
+use Rattle.guard_inputs.proofs.Stopping.{IsStop-more, as-rose, at-exit, none-rose, rose-since}
+use Rattle.guard_run.specs.code.Stages.{JoiningInputs, WithPatterns}
+use Rattle.guard_run.specs.code.Jobs.{Doing}
 use Rattle.guard_run.specs.code.Outcome.{ended}
-use Rattle.guard_run.specs.code.Stops.{IsStop, NoneRose, Rose}
 use Rattle.guard_run.specs.declared.done.Done.{Done}
 use Rattle.guard_run.proofs.Joinings.{joined-comes, loaded-params, params-before}
-use Rattle.guard_run.proofs.Outcomes.{IsOutcome-more, IsStop-more, as-rose, at-exit, none-rose, rose-since}
+use Rattle.guard_run.proofs.Outcomes.{IsOutcome-more}
 use Rattle.guard_run.proofs.Stages.{doing-patterns}
 use Rattle.guard_run.proofs.over_files.run_over_template.Goals as goal
 

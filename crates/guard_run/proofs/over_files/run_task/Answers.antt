@@ -1,12 +1,13 @@
 use Rattle.std.proofs.Common.{subst, sym}
 use Rattle.guard_ends.specs.Order.{Inputs, Work}
-use Rattle.guard_run.specs.code.Inputs.{inputs_of}
+use Rattle.guard_inputs.specs.code.Inputs.{inputs_of}
+use Rattle.guard_inputs.specs.code.Stops.{NoneRose, Rose}
+use Rattle.guard_inputs.proofs.Stopping.{as-rose, none-rose}
 use Rattle.guard_run.specs.code.Jobs.{Doing}
 use Rattle.guard_run.specs.code.Outcome.{IsOutcome}
-use Rattle.guard_run.specs.code.Stops.{NoneRose, Rose}
 use Rattle.guard_run.specs.declared.job.Task.{Task}
 use Rattle.guard_run.specs.declared.job.Task.TheVariants as task
-use Rattle.guard_run.proofs.Outcomes.{IsOutcome-more, as-rose, none-rose}
+use Rattle.guard_run.proofs.Outcomes.{IsOutcome-more}
 use Rattle.guard_run.proofs.over_files.run_task.Goals as goal
 
 pub returns-in-Report-clause-outcome : goal.returns-in-Report-clause-outcome

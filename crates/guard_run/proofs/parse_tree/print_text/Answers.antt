@@ -1,13 +1,12 @@
-use Rattle.std.proofs.Common.{inl, inr, ap, refl, subst, sym, ◌∙◌, string_bytes}
+use Rattle.std.proofs.Common.{inl, inr, ap, refl, ◌∙◌}
 use Rattle.doc_values.specs.Limits.{rules_limit}
 use Rattle.guard_syntax.specs.code.Seen.{see_file}
-use Rattle.rule_printer.specs.RuleText.{rule_text}
 use Rattle.guard_ends.specs.Inputs.{HasSyntax, IsText, RefusesUnnamed}
 use Rattle.guard_ends.specs.Order.{Ends, Printing, Refusing, written}
+use Rattle.guard_inputs.specs.code.Stops.{IsStop, NoneRose}
+use Rattle.guard_inputs.proofs.Stopping.{IsStop-more, as-rose, at-exit}
 use Rattle.guard_run.specs.code.Outcome.{ended}
-use Rattle.guard_run.specs.code.Stops.{IsStop, NoneRose}
 use Rattle.guard_run.specs.declared.done.Done.{Done}
-use Rattle.guard_run.proofs.Outcomes.{IsStop-more, as-rose, at-exit}
 use Rattle.guard_run.proofs.parse_tree.print_text.Goals as goal
 
 pub returns-in_err-raw : goal.returns-in_err-raw

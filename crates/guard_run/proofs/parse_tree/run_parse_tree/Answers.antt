@@ -2,12 +2,13 @@ use Rattle.std.proofs.Common.{ℕ, List, inl, inr, string_bytes, subst}
 use Rattle.guard_ends.specs.Inputs.{RefusesUnnamed}
 use Rattle.guard_ends.specs.Order.{Contents, Ends, Loading, OfSyntax, Point, Printing, Refusing, Work}
 use Rattle.guard_ends.specs.declared.ends.Which.TheVariants as file
-use Rattle.guard_run.specs.code.Loading.{RefusesText}
+use Rattle.guard_inputs.specs.code.Loading.{RefusesText}
+use Rattle.guard_inputs.specs.code.Stops.{IsStop, NoneRose, Rose}
+use Rattle.guard_inputs.proofs.Loads.{refused-more, text-unnamed}
+use Rattle.guard_inputs.proofs.Stopping.{IsStop-more, as-rose, at-exit, none-rose}
 use Rattle.guard_run.specs.code.Outcome.{IsOutcomeAt, ended}
-use Rattle.guard_run.specs.code.Stops.{IsStop, NoneRose, Rose}
 use Rattle.guard_run.specs.declared.done.Done.{Done}
-use Rattle.guard_run.proofs.Loads.{refused-more, text-unnamed}
-use Rattle.guard_run.proofs.Outcomes.{IsOutcome-more, IsStop-more, as-rose, at-exit, none-rose}
+use Rattle.guard_run.proofs.Outcomes.{IsOutcome-more}
 use Rattle.guard_run.proofs.parse_tree.run_parse_tree.Goals as goal
 
 refused-before : (told : Contents) (name : List ℕ) (p : Point) → Loading file.Rules told name (Refusing RefusesUnnamed) p → OfSyntax told name p

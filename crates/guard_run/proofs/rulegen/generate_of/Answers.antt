@@ -2,10 +2,11 @@ use Rattle.std.proofs.Common.{◌≡◌, ℕ, List, inl, inr, string_bytes}
 use Rattle.guard_ends.specs.Inputs.{AreGenerated, RefusesData, RefusesGenerated}
 use Rattle.guard_ends.specs.Order.{Ending, Ends, Generating, Reading, Refusing, Work, written}
 use Rattle.guard_ends.specs.declared.ends.Which.TheVariants as file
+use Rattle.guard_inputs.specs.code.Stops.{IsStop, NoneRose}
+use Rattle.guard_inputs.proofs.Stopping.{IsStop-more, as-rose, at-exit}
 use Rattle.guard_run.specs.code.Outcome.{ended}
-use Rattle.guard_run.specs.code.Stops.{IsStop, NoneRose}
 use Rattle.guard_run.specs.declared.done.Done.{Done}
-use Rattle.guard_run.proofs.Outcomes.{IsOutcome-more, IsStop-more, as-rose, at-exit}
+use Rattle.guard_run.proofs.Outcomes.{IsOutcome-more}
 use Rattle.guard_run.proofs.rulegen.generate_of.Goals as goal
 
 pub returns-in_err-tree : goal.returns-in_err-tree

@@ -1,14 +1,15 @@
-use Rattle.std.proofs.Common.{ℕ, List, inl, inr, refl, string_bytes, subst, sym}
+use Rattle.std.proofs.Common.{ℕ, List, inl, inr, refl, string_bytes, subst}
 use Rattle.guard_ends.specs.Inputs.{RefusesData, format_of}
 use Rattle.guard_ends.specs.Order.{Contents, Ends, Generating, Loading, OfTemplate, Point, Refusing, Work}
 use Rattle.guard_ends.specs.declared.ends.Which.TheVariants as file
 use Rattle.guard_ends.specs.declared.format.Format.{Format}
-use Rattle.guard_run.specs.code.Loading.{RefusesText}
+use Rattle.guard_inputs.specs.code.Loading.{RefusesText}
+use Rattle.guard_inputs.specs.code.Stops.{IsStop, NoneRose, Rose}
+use Rattle.guard_inputs.proofs.Loads.{refused-more, text-data}
+use Rattle.guard_inputs.proofs.Stopping.{IsStop-more, as-rose, at-exit, none-rose}
 use Rattle.guard_run.specs.code.Outcome.{ended}
-use Rattle.guard_run.specs.code.Stops.{IsStop, NoneRose, Rose}
 use Rattle.guard_run.specs.declared.done.Done.{Done}
-use Rattle.guard_run.proofs.Loads.{refused-more, text-data}
-use Rattle.guard_run.proofs.Outcomes.{IsOutcome-more, IsStop-more, as-rose, at-exit, none-rose}
+use Rattle.guard_run.proofs.Outcomes.{IsOutcome-more}
 use Rattle.guard_run.proofs.rulegen.run_rulegen.Goals as goal
 
 refused-before : (told : Contents) (name : List ℕ) (p : Point)

@@ -2,12 +2,14 @@ use Rattle.std.proofs.Common.{◌≤◌, List, ℕ, inr, length, string_bytes, s
 use Rattle.doc_values.specs.Limits.{rules_limit}
 use Rattle.guard_syntax.specs.Syntax.{File}
 use Rattle.guard_ends.specs.Order.{Ending, Ends, IsTested, MakingPatterns, Work}
+use Rattle.guard_inputs.specs.code.Stops.{AreNotMade, IsStop, NoneRose, Rose}
+use Rattle.guard_inputs.specs.code.Tests.{cases_of, rules_of}
+use Rattle.guard_inputs.specs.declared.stop.Stop.{Stop}
+use Rattle.guard_inputs.proofs.Stopping.{IsStop-more, as-rose, at-exit, none-rose}
 use Rattle.guard_run.specs.code.Outcome.{ended}
-use Rattle.guard_run.specs.code.Stops.{AreNotMade, IsStop, NoneRose, Rose}
-use Rattle.guard_run.specs.code.Tested.{Testing, cases_of, rules_of}
+use Rattle.guard_run.specs.code.Tested.{Testing}
 use Rattle.guard_run.specs.declared.done.Done.{Done}
-use Rattle.guard_run.specs.declared.stop.Stop.{Stop}
-use Rattle.guard_run.proofs.Outcomes.{IsOutcome-more, IsStop-more, as-rose, at-exit, none-rose}
+use Rattle.guard_run.proofs.Outcomes.{IsOutcome-more}
 use Rattle.guard_run.proofs.Stages.{patterns-more}
 use Rattle.guard_run.proofs.test.judge_tests.Goals as goal
 

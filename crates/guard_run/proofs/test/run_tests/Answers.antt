@@ -1,12 +1,13 @@
 use Rattle.guard_ends.specs.End.{Counts}
 use Rattle.guard_ends.specs.Order.{Ends, LoadingTexts, OfTests, Refusing, Work}
 use Rattle.guard_ends.specs.declared.ends.Which.TheVariants as file
-use Rattle.guard_run.specs.code.Loading.{RefusesText}
+use Rattle.guard_inputs.specs.code.Loading.{RefusesText}
+use Rattle.guard_inputs.specs.code.Stops.{NoneRose, Rose}
+use Rattle.guard_inputs.proofs.Stopping.{IsStop-more, as-rose, at-exit, none-rose}
 use Rattle.guard_run.specs.code.Outcome.{IsStopBy, ended}
-use Rattle.guard_run.specs.code.Stops.{NoneRose, Rose}
 use Rattle.guard_run.specs.code.Tested.{TestingSources}
 use Rattle.guard_run.specs.declared.done.Done.{Done}
-use Rattle.guard_run.proofs.Outcomes.{IsOutcome-more, IsStop-more, as-rose, at-exit, none-rose}
+use Rattle.guard_run.proofs.Outcomes.{IsOutcome-more}
 use Rattle.guard_run.proofs.Testings.{tests-before, tests-loaded}
 use Rattle.guard_run.proofs.test.run_tests.Goals as goal
 

@@ -9,7 +9,7 @@ use Rattle.rule_meaning.specs.FunctionMeaning.{IsAnswering}
 use Rattle.rule_meaning.specs.Locations.{Answers}
 use Rattle.guard_ends.specs.Reported.{world_over}
 use Rattle.guard_ends.proofs.ReportedVerdicts.{verdicts-many}
-use Rattle.guard_run.specs.code.Tested.{rules_of}
+use Rattle.guard_inputs.specs.code.Tests.{rules_of}
 use Rattle.guard_run.proofs.SaidCases.{said-right, said-wrong}
 use Rattle.guard_run.proofs.test.say_case.Goals as goal
 

@@ -2,7 +2,8 @@ use Rattle.std.proofs.Common.{◌≡◌, ◌+◌, ◌<◌, ◌∙◌, ℕ, Bool,
 use Rattle.guard_syntax.specs.Syntax.{File}
 use Rattle.guard_testfile.specs.code.Seen.{see_case}
 use Rattle.guard_testfile.specs.declared.case.Case.{Case}
-use Rattle.guard_run.specs.code.Tested.{AreSaid, IsSaid, rules_of}
+use Rattle.guard_inputs.specs.code.Tests.{rules_of}
+use Rattle.guard_run.specs.code.Tested.{AreSaid, IsSaid}
 use Rattle.guard_run.proofs.SaidCases.{said-next}
 use Rattle.guard_run.proofs.test.say_cases.Goals as goal
 use Rattle.guard_run.proofs.test.say_cases.Goals.{then-branch, else-branch}

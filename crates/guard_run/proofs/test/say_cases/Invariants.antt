@@ -1,6 +1,7 @@
 use Rattle.std.proofs.Common.{◌≤◌, map, take}
 use Rattle.guard_testfile.specs.code.Seen.{see_case}
-use Rattle.guard_run.specs.code.Tested.{AreSaid, rules_of}
+use Rattle.guard_inputs.specs.code.Tests.{rules_of}
+use Rattle.guard_run.specs.code.Tested.{AreSaid}
 use Rattle.guard_run.proofs.test.say_cases.Given as goal
 
 abbrev pub invariant-loop-i : goal.invariant-loop-i

@@ -5,12 +5,12 @@ use Rattle.guard_syntax.specs.Syntax.{File}
 use Rattle.guard_testfile.specs.Texts.{summary_line}
 use Rattle.guard_testfile.specs.code.Seen.{see_case}
 use Rattle.guard_ends.specs.Order.{Ending, Ends, IsTested, Work}
+use Rattle.guard_inputs.specs.code.Stops.{IsStop, NoneRose}
+use Rattle.guard_inputs.specs.code.Tests.{cases_of, rules_of}
+use Rattle.guard_inputs.specs.declared.stop.Stop.TheVariants as stop
+use Rattle.guard_inputs.proofs.Stopping.{at-exit}
 use Rattle.guard_run.specs.code.Outcome.{ended}
-use Rattle.guard_run.specs.code.Stops.{IsStop, NoneRose}
-use Rattle.guard_run.specs.code.Tested.{cases_of, rules_of}
 use Rattle.guard_run.specs.declared.done.Done.{Done}
-use Rattle.guard_run.specs.declared.stop.Stop.TheVariants as stop
-use Rattle.guard_run.proofs.Outcomes.{at-exit}
 use Rattle.guard_run.proofs.SaidCases.{tested-as}
 use Rattle.guard_run.proofs.test.say_tests.Goals as goal
 

@@ -1,9 +1,11 @@
 use Rattle.guard_ends.specs.Order.{Ends, Work}
+use Rattle.guard_inputs.specs.code.Stops.{IsStop, NoneRose, Rose}
+use Rattle.guard_inputs.specs.code.Tests.{RefusingTests}
+use Rattle.guard_inputs.proofs.Stopping.{IsStop-more, as-rose, at-exit, none-rose}
 use Rattle.guard_run.specs.code.Outcome.{ended}
-use Rattle.guard_run.specs.code.Stops.{IsStop, NoneRose, Rose}
-use Rattle.guard_run.specs.code.Tested.{RefusingTests, Testing, TestingSources}
+use Rattle.guard_run.specs.code.Tested.{Testing, TestingSources}
 use Rattle.guard_run.specs.declared.done.Done.{Done}
-use Rattle.guard_run.proofs.Outcomes.{IsOutcome-more, IsStop-more, as-rose, at-exit, none-rose}
+use Rattle.guard_run.proofs.Outcomes.{IsOutcome-more}
 use Rattle.guard_run.proofs.Testings.{reads-before, tests-read}
 use Rattle.guard_run.proofs.test.test_sources.Goals as goal
 

@@ -5,8 +5,8 @@ use Rattle.rule_meaning.specs.FunctionMeaning.{IsAnswering}
 use Rattle.rule_meaning.specs.Values.{has_pattern}
 use Rattle.evidence_report.proofs.TakenTexts.{none-at-exit}
 use Rattle.guard_ends.specs.Reported.{verdicts_of, world_over}
-use Rattle.guard_run.specs.code.Tested.{rules_of}
-use Rattle.guard_run.proofs.Plainness.{part-plain}
+use Rattle.guard_inputs.specs.code.Tests.{rules_of}
+use Rattle.guard_inputs.proofs.Plainness.{part-plain}
 use Rattle.guard_run.proofs.test.verdicts_at.Goals as goal
 
 pub verdicts_over-requires-clause-plain : goal.verdicts_over-requires-clause-plain

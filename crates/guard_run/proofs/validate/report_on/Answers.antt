@@ -3,7 +3,7 @@ use Rattle.rule_meaning.specs.FunctionMeaning.{IsAnswering}
 use Rattle.rule_meaning.specs.Locations.{Answers}
 use Rattle.guard_ends.specs.Order.{Inputs}
 use Rattle.guard_ends.specs.Reported.{world_over}
-use Rattle.guard_run.specs.code.Inputs.{inputs_of}
+use Rattle.guard_inputs.specs.code.Inputs.{inputs_of}
 use Rattle.guard_run.specs.code.Forms.{report_in}
 use Rattle.guard_run.specs.code.Outcome.{ended}
 use Rattle.guard_run.proofs.Outcomes.{judged-as}

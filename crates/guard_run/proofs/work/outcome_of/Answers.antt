@@ -2,8 +2,9 @@ use Rattle.std.proofs.Common.{Err, ap, inl, inr, map, refl, string_bytes, subst}
 use Rattle.guard_words.specs.Request.{AsksFor, asked}
 use Rattle.guard_words.proofs.DrillCounts.{drill_low}
 use Rattle.guard_ends.specs.Order.{ComesTo, WorkOf}
-use Rattle.guard_run.specs.code.Stops.{Rose}
-use Rattle.guard_run.proofs.Outcomes.{IsOutcome-more, as-rose}
+use Rattle.guard_inputs.specs.code.Stops.{Rose}
+use Rattle.guard_inputs.proofs.Stopping.{as-rose}
+use Rattle.guard_run.proofs.Outcomes.{IsOutcome-more}
 use Rattle.guard_run.proofs.work.outcome_of.Goals as goal
 
 pub run-requires : goal.run-requires

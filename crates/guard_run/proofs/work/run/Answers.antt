@@ -2,14 +2,16 @@ use Rattle.std.proofs.Common.{◌≡◌, ℕ, List, Option, Bool, Result, ap, fa
 use Rattle.guard_words.specs.Request.{Asked, asked, check, drill, parse_tree, rulegen, test, validate}
 use Rattle.guard_ends.specs.End.{Counts}
 use Rattle.guard_ends.specs.Order.{Contents, OfDrill, OfEvidence, OfSyntax, OfTemplate, OfTests, OverFiles, Work, WorkOf}
-use Rattle.guard_run.specs.code.Jobs.{Doing, name_in}
+use Rattle.guard_inputs.specs.code.Joined.{name_in}
+use Rattle.guard_inputs.specs.code.Stops.{NoneRose, Rose}
+use Rattle.guard_inputs.specs.declared.stop.Stop.{Stop}
+use Rattle.guard_inputs.proofs.Stopping.{as-rose, none-rose}
+use Rattle.guard_run.specs.code.Jobs.{Doing}
 use Rattle.guard_run.specs.code.Outcome.{IsOutcomeBy}
-use Rattle.guard_run.specs.code.Stops.{NoneRose, Rose}
 use Rattle.guard_run.specs.declared.done.Done.{Done}
 use Rattle.guard_run.specs.declared.job.Task.{Task}
 use Rattle.guard_run.specs.declared.job.Task.TheVariants as task
-use Rattle.guard_run.specs.declared.stop.Stop.{Stop}
-use Rattle.guard_run.proofs.Outcomes.{IsOutcome-more, as-rose, none-rose}
+use Rattle.guard_run.proofs.Outcomes.{IsOutcome-more}
 use Rattle.guard_run.proofs.work.run.Goals as goal
 
 module _ (told : Contents) (before after : Counts) (o : Result Done Stop) where

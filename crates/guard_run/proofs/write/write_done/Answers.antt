@@ -9,7 +9,7 @@ use Rattle.guard_ends.specs.declared.ends.Pipe.{Pipe}
 use Rattle.guard_ends.specs.declared.ends.Pipe.TheVariants.{Out}
 use Rattle.guard_ends.specs.declared.ends.Pipe.TheVariants as pipe
 use Rattle.guard_ends.specs.Order.{Ended}
-use Rattle.guard_run.specs.code.Refusals.{bytes_of}
+use Rattle.guard_inputs.specs.code.Refusals.{bytes_of}
 use Rattle.guard_run.specs.code.Writing.{Said}
 use Rattle.guard_run.proofs.Closing.{Took-front, Closed-said, Closed-memory, Closed-defined, IsTaken-as, reported_with, reported-defined}
 use Rattle.guard_run.proofs.write.write_done.Goals as goal

@@ -6,10 +6,10 @@ use Rattle.guard_ends.specs.End.{Unread, Unmade, Took}
 use Rattle.guard_ends.specs.Lines.{usage_line, read_fault_line, pattern_line}
 use Rattle.guard_ends.specs.Order.{ComesTo, EndOf, usage}
 use Rattle.guard_ends.specs.declared.ends.End.TheVariants as end_is
+use Rattle.guard_inputs.specs.code.Refusals.{bytes_of, said}
+use Rattle.guard_inputs.specs.declared.refused.Refused.{Refused}
 use Rattle.guard_run.specs.code.Outcome.{IsStopBy}
-use Rattle.guard_run.specs.code.Refusals.{bytes_of, said}
 use Rattle.guard_run.specs.code.Writing.{Said}
-use Rattle.guard_run.specs.declared.refused.Refused.{Refused}
 use Rattle.guard_run.proofs.Closing.{Took-nothing, Closed-said, Closed-memory}
 use Rattle.guard_run.proofs.write.write_stop.Goals as goal
 

@@ -1,0 +1,6 @@
+pub mod Loads
+mod NotMerged
+pub mod Plainness
+mod ReadParams
+mod Refusing
+pub mod Stopping
