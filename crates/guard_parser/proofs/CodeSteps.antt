@@ -192,3 +192,33 @@ module _ {X L A : Type 0} (more : X → L → L) (next : L → Parser A) (front 
 
   pub list_spent : turns ≤ turn → list 0 st seen ≡ Fail seen → total ≡ Fail seen
   list_spent done e = so_far ∙ ap (λ (k : ℕ). listed more next front (list k st seen)) (no_more turns turn done) ∙ ap (listed more next front) e
+
+-- ---- lists, an item in each turn
+
+-- an item and the list behind it
+abbrev pub some_of : {X L : Type 0} → (X → L → L) → Parser X → (ℕ → Parser L) → ℕ → Parser L
+some_of more item list turns = item >>= (λ x. list turns >>= (λ xs. pure (more x xs)))
+
+pub read_whole : {A : Type 0} (o : Outcome A) → o ≡ and_then o pure
+read_whole (Read x st seen) = refl
+read_whole (Fail k) = refl
+
+pub list_opened : {X L A : Type 0} (more : X → L → L) (next : L → Parser A) (xs : List X) (o : Outcome L) (total : Outcome A) → total ≡ and_then o next → xs ≡ [] → total ≡ listed more next xs o
+list_opened more next xs o total e none = e ∙ ap (λ ys. listed more next ys o) (sym none)
+
+module _ {X L A : Type 0} (more : X → L → L) (next : L → Parser A) (front : List X) (item : Parser X) (list : ℕ → Parser L) (turns : ℕ) (total : Outcome A) (st : State) (seen : ℕ)
+    (so_far : total ≡ listed more next front (some_of more item list turns st seen)) where
+  pub item_failed : (k : ℕ) → item st seen ≡ Fail k → total ≡ Fail k
+  item_failed k e = so_far ∙ ap (λ (o : Outcome X). listed more next front (and_then o (λ x. list turns >>= (λ xs. pure (more x xs))))) e
+
+  -- behind an item that was read
+  module _ (x : X) (xs : List X) (st1 : State) (seen1 : ℕ) (read : item st seen ≡ Read x st1 seen1) (is : xs ≡ front ++ x ∷ []) where
+    behind : total ≡ listed more next xs (list turns st1 seen1)
+    behind = so_far ∙ ap (λ (o : Outcome X). listed more next front (and_then o (λ y. list turns >>= (λ ys. pure (more y ys))))) read
+        ∙ listed_more more next front x (list turns st1 seen1) ∙ ap (λ ys. listed more next ys (list turns st1 seen1)) (sym is)
+
+    pub turns_spent : turns ≡ 0 → list 0 st1 seen1 ≡ Fail seen1 → total ≡ Fail seen1
+    turns_spent none e = behind ∙ ap (λ (k : ℕ). listed more next xs (list k st1 seen1)) none ∙ ap (listed more next xs) e
+
+    pub went_on : turns ≢ 0 → (o : Outcome L) → list (suc (turns - 1)) st1 seen1 ≡ o → total ≡ listed more next xs o
+    went_on some o e = behind ∙ ap (λ (k : ℕ). listed more next xs (list k st1 seen1)) (deeper turns some) ∙ ap (listed more next xs) e

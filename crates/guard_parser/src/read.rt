@@ -124,15 +124,19 @@ fn add_parts(
     requires none { found.old.items ≡ [] }
     ensures { Reads (λ _. see_parts found.new) (some_parts_at tokens.entry depth (state_of cursor.old) cursor.old.seen) result cursor.new }
 {
-    add(found, part(alloc, tokens, cursor, depth))?;
-    for _turn in 0..tokens.turns {
+    // So many items may stand behind the first.
+    let mut left = tokens.turns;
+    'items: loop {
+        add(found, part(alloc, tokens, cursor, depth))?;
+        if left == 0 {
+            return Err(Halt::Dead(cursor.seen));
+        }
+        left -= 1;
         if !cursor.sees(tokens, TokenTest::Or) {
             return Ok(());
         }
         cursor.takes(tokens, TokenTest::Or)?;
-        add(found, part(alloc, tokens, cursor, depth))?;
     }
-    Err(Halt::Dead(cursor.seen))
 }
 
 /// A part of a body. Where no bracket more may open, a word that needs one goes no further.

@@ -81,14 +81,18 @@ fn add_disjs(
     requires none { found.old.items ≡ [] }
     ensures { Reads (λ _. see_disjs found.new) (some_disjs_at tokens.entry depth (state_of cursor.old) cursor.old.seen) result cursor.new }
 {
-    add(found, alternatives(alloc, tokens, cursor, depth))?;
-    for _turn in 0..tokens.turns {
+    // So many items may stand behind the first.
+    let mut left = tokens.turns;
+    'items: loop {
+        add(found, alternatives(alloc, tokens, cursor, depth))?;
+        if left == 0 {
+            return Err(Halt::Dead(cursor.seen));
+        }
+        left -= 1;
         if !cursor.sees(tokens, TokenTest::Cond) {
             return Ok(());
         }
-        add(found, alternatives(alloc, tokens, cursor, depth))?;
     }
-    Err(Halt::Dead(cursor.seen))
 }
 
 /// Conditions joined by `or`.
@@ -123,15 +127,19 @@ fn add_conditions(
     requires none { found.old.items ≡ [] }
     ensures { Reads (λ _. see_parts found.new) (some_conditions_at tokens.entry depth (state_of cursor.old) cursor.old.seen) result cursor.new }
 {
-    add(found, condition(alloc, tokens, cursor, depth))?;
-    for _turn in 0..tokens.turns {
+    // So many items may stand behind the first.
+    let mut left = tokens.turns;
+    'items: loop {
+        add(found, condition(alloc, tokens, cursor, depth))?;
+        if left == 0 {
+            return Err(Halt::Dead(cursor.seen));
+        }
+        left -= 1;
         if !cursor.sees(tokens, TokenTest::Or) {
             return Ok(());
         }
         cursor.takes(tokens, TokenTest::Or)?;
-        add(found, condition(alloc, tokens, cursor, depth))?;
     }
-    Err(Halt::Dead(cursor.seen))
 }
 
 /// A condition: a test, or the name of a rule.

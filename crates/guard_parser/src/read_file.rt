@@ -33,15 +33,19 @@ fn add_names(
     requires none { found.old.items ≡ [] }
     ensures { Reads (λ _. found.new.items) (closed_names_at tokens.entry (state_of cursor.old) cursor.old.seen) result cursor.new }
 {
-    add(found, cursor.has_name(alloc, tokens, TokenTest::Name))?;
-    for _turn in 0..tokens.turns {
+    // So many items may stand behind the first.
+    let mut left = tokens.turns;
+    'items: loop {
+        add(found, cursor.has_name(alloc, tokens, TokenTest::Name))?;
+        if left == 0 {
+            return Err(Halt::Dead(cursor.seen));
+        }
+        left -= 1;
         if !cursor.sees(tokens, TokenTest::Comma) {
             return cursor.takes(tokens, TokenTest::RParen);
         }
         cursor.takes(tokens, TokenTest::Comma)?;
-        add(found, cursor.has_name(alloc, tokens, TokenTest::Name))?;
     }
-    Err(Halt::Dead(cursor.seen))
 }
 
 /// The parameters of a rule, or its conditions.

@@ -232,13 +232,17 @@ fn add_exprs(
     requires none { found.old.items ≡ [] }
     ensures { Reads (λ _. see_exprs found.new) (closed_exprs_at tokens.entry depth (state_of cursor.old) cursor.old.seen) result cursor.new }
 {
-    add(found, expr(alloc, tokens, cursor, depth))?;
-    for _turn in 0..tokens.turns {
+    // So many items may stand behind the first.
+    let mut left = tokens.turns;
+    'items: loop {
+        add(found, expr(alloc, tokens, cursor, depth))?;
+        if left == 0 {
+            return Err(Halt::Dead(cursor.seen));
+        }
+        left -= 1;
         if !cursor.sees(tokens, TokenTest::Comma) {
             return cursor.takes(tokens, TokenTest::RParen);
         }
         cursor.takes(tokens, TokenTest::Comma)?;
-        add(found, expr(alloc, tokens, cursor, depth))?;
     }
-    Err(Halt::Dead(cursor.seen))
 }

@@ -3,7 +3,7 @@ use Rattle.std.proofs.lemmas.List.{map-append}
 use Rattle.guard_syntax.specs.Syntax as sx
 use Rattle.guard_syntax.specs.code.Seen.{see_conds, see_disj, see_expr, see_part, see_query, see_step}
 use Rattle.literal_parser.specs.Forms.{begins_cond, begins_step, is_comma, is_or, is_keys, is_lparen, is_rparen, is_lbracket, is_rbracket, is_dot, is_star, is_index, is_name, is_binary, leads, text_of}
-use Rattle.literal_parser.specs.code.Parser.{One, Read, pure, and_then, ◌>>=◌, ◌>>◌, opens, takes, has}
+use Rattle.literal_parser.specs.code.Parser.{One, Read, Fail, pure, and_then, ◌>>=◌, ◌>>◌, opens, takes, has}
 use Rattle.literal_parser.specs.code.Reads.{site_of, source, state_of}
 use Rattle.guard_parser.specs.declared.lead.Lead.{Lead}
 use Rattle.guard_parser.specs.declared.lead.ExprForm.{ExprForm}
@@ -11,101 +11,87 @@ use Rattle.guard_parser.specs.code.Leads.{lead_of, led_by, expr_by}
 use Rattle.guard_parser.specs.code.Reading as spec
 use Rattle.guard_parser.specs.code.Reading.{disjs, ors, steps, more_exprs_of, exprs_of, conds_of, disj_of, query_of, start_step, cond_part, headed, judged, tested, right, referred, ruled, called, applied, asked_expr, step, dotted, bracketed, keyed, filtered}
 use Rattle.guard_parser.specs.code.GrammarReads.{KeyTest, inner, see_disjs, see_parts, see_steps, see_exprs, see_key_test, alternatives_at, more_alternatives_at, cond_part_at, conds_at, disjs_at, dotted_at, items_at, closed_index_at, query_at, step_at, steps_at, expr_at, tree_expr_at, more_exprs_at, some_disjs_at, some_conditions_at, some_steps_at, closed_exprs_at, closed_exprs, arguments_at, named_at, tested_at, called_at, applied_at, filter_at, key_test_at}
-use Rattle.guard_parser.proofs.CodeSteps.{then_read, then_fail, seen_as, tested_by, saw, handed, halted, halted_by, halted_adding, taken, both, then_closed, then_enclosed, then_tested, closed_by, list_begun, list_more, list_ended, list_failed, list_spent, deeper}
+use Rattle.guard_parser.proofs.CodeSteps.{then_read, then_fail, seen_as, tested_by, saw, handed, halted, halted_by, halted_adding, taken, both, then_closed, then_enclosed, then_tested, closed_by, list_begun, list_more, list_ended, list_failed, list_spent, deeper, some_of, read_whole, list_opened, item_failed, turns_spent, went_on}
 use Rattle.guard_parser.proofs.Leads.{condition_led, expr_formed}
 use Rattle.guard_parser.proofs.Rooms.{roomy_reads, full_stops, room_left, no_room}
 use Rattle.guard_parser.proofs.SeenForms.{conds-made, disj-made, query-made, test-made, refer-made, call-made, function-made, asked-made, keys-made, filter-made}
 use Rattle.guard_parser.proofs.+conditions.Goals as goal
 
-pub read_condition::add_disjs-loop-turn-init : goal.read_condition::add_disjs-loop-turn-init
-unfolding disjs
-read_condition::add_disjs-loop-turn-init t c =
-    let got = taken see_disj (alternatives_at c.args.tokens c.args.depth (state_of c.args.cursor.now) c.args.cursor.now.seen) c.alternatives.result _ _ c.alternatives.new.cursor c.alternatives.ensures c.in_ok-add.ensures in
-    list_begun sx.more_disjs pure _ _ (λ (k : ℕ). disjs_at c.args.tokens c.args.depth k) c.args.tokens.turns (some_disjs_at c.args.tokens c.args.depth (state_of c.args.cursor.now) c.args.cursor.now.seen) (state_of c.alternatives.new.cursor) c.alternatives.new.cursor.seen
-    (then_read _ got.1 refl) (ap (map see_disj) (got.2 ∙ ap (λ xs. xs ++ got.0 ∷ []) c.requires.none))
+pub read_condition::add_disjs-items-init : goal.read_condition::add_disjs-items-init
+read_condition::add_disjs-items-init t c =
+    list_opened sx.more_disjs pure (map see_disj c.args.found.now.items) (some_of sx.more_disjs (alternatives_at c.args.tokens c.args.depth) (λ (k : ℕ). disjs_at c.args.tokens c.args.depth k) c.args.tokens.turns (state_of c.args.cursor.now) c.args.cursor.now.seen) (some_disjs_at c.args.tokens c.args.depth (state_of c.args.cursor.now) c.args.cursor.now.seen) (read_whole (some_of sx.more_disjs (alternatives_at c.args.tokens c.args.depth) (λ (k : ℕ). disjs_at c.args.tokens c.args.depth k) c.args.tokens.turns (state_of c.args.cursor.now) c.args.cursor.now.seen)) (ap (map see_disj) c.requires.none)
 
-pub read_condition::add_disjs-loop-turn-preserved : goal.read_condition::add_disjs-loop-turn-preserved
+pub read_condition::add_disjs-items-preserved : goal.read_condition::add_disjs-items-preserved
 unfolding disjs
-read_condition::add_disjs-loop-turn-preserved t c =
-    let got = taken see_disj (alternatives_at c.args.tokens c.args.depth (state_of c.sees.new.self) c.sees.new.self.seen) c.alternatives-in-loop-turn.result _ _ c.alternatives-in-loop-turn.new.cursor c.alternatives-in-loop-turn.ensures c.in_ok-add-2.ensures in
-    list_more sx.more_disjs pure (map see_disj c.loop-turn.found.items) (λ (k : ℕ). disjs_at c.args.tokens c.args.depth k) c.args.tokens.turns c.loop-turn._turn (some_disjs_at c.args.tokens c.args.depth (state_of c.args.cursor.now) c.args.cursor.now.seen) (state_of c.loop-turn.cursor) c.loop-turn.cursor.seen c.loop-turn.invariant _ _ (state_of c.alternatives-in-loop-turn.new.cursor) c.alternatives-in-loop-turn.new.cursor.seen c.loop-turn-test.true
-    (saw (source c.args.tokens) begins_cond _ _ (state_of c.loop-turn.cursor) c.loop-turn.cursor.seen c.sees.ensures.token c.if-not-sees.false c.sees.ensures.state c.sees.ensures.seen (then_read _ got.1 refl))
-    (ap (map see_disj) got.2 ∙ map-append see_disj c.loop-turn.found.items _)
+read_condition::add_disjs-items-preserved t c =
+    let got = taken see_disj ((alternatives_at c.args.tokens c.args.depth) (state_of c.items.cursor) c.items.cursor.seen) c.alternatives.result _ _ c.alternatives.new.cursor c.alternatives.ensures c.in_ok-add.ensures in
+    went_on sx.more_disjs pure (map see_disj c.items.found.items) (alternatives_at c.args.tokens c.args.depth) (λ (k : ℕ). disjs_at c.args.tokens c.args.depth k) c.items.left (some_disjs_at c.args.tokens c.args.depth (state_of c.args.cursor.now) c.args.cursor.now.seen) (state_of c.items.cursor) c.items.cursor.seen c.items.invariant
+    (see_disj got.0) (map see_disj c.add.new.found.items) (state_of c.alternatives.new.cursor) c.alternatives.new.cursor.seen got.1 (ap (map see_disj) got.2 ∙ map-append see_disj c.items.found.items _) c.if-left-eq0.false (some_of sx.more_disjs (alternatives_at c.args.tokens c.args.depth) (λ (k : ℕ). disjs_at c.args.tokens c.args.depth k) (c.items.left - 1) (state_of c.sees.new.self) c.sees.new.self.seen)
+    (saw (source c.args.tokens) begins_cond _ _ (state_of c.alternatives.new.cursor) c.alternatives.new.cursor.seen c.sees.ensures.token c.if-not-sees.false c.sees.ensures.state c.sees.ensures.seen refl)
+
+pub read_condition::add_disjs-returns-then-left-eq0 : goal.read_condition::add_disjs-returns-then-left-eq0
+unfolding disjs
+read_condition::add_disjs-returns-then-left-eq0 t c =
+    let got = taken see_disj ((alternatives_at c.args.tokens c.args.depth) (state_of c.items.cursor) c.items.cursor.seen) c.alternatives.result _ _ c.alternatives.new.cursor c.alternatives.ensures c.in_ok-add.ensures in
+    turns_spent sx.more_disjs pure (map see_disj c.items.found.items) (alternatives_at c.args.tokens c.args.depth) (λ (k : ℕ). disjs_at c.args.tokens c.args.depth k) c.items.left (some_disjs_at c.args.tokens c.args.depth (state_of c.args.cursor.now) c.args.cursor.now.seen) (state_of c.items.cursor) c.items.cursor.seen c.items.invariant
+    (see_disj got.0) (map see_disj c.add.new.found.items) (state_of c.alternatives.new.cursor) c.alternatives.new.cursor.seen got.1 (ap (map see_disj) got.2 ∙ map-append see_disj c.items.found.items _) c.if-left-eq0.true refl
 
 pub read_condition::add_disjs-returns-then-not-sees : goal.read_condition::add_disjs-returns-then-not-sees
 unfolding disjs
 read_condition::add_disjs-returns-then-not-sees t c =
-    list_ended sx.more_disjs pure (map see_disj c.loop-turn.found.items) (λ (k : ℕ). disjs_at c.args.tokens c.args.depth k) c.args.tokens.turns c.loop-turn._turn (some_disjs_at c.args.tokens c.args.depth (state_of c.args.cursor.now) c.args.cursor.now.seen) (state_of c.loop-turn.cursor) c.loop-turn.cursor.seen c.loop-turn.invariant sx.no_disjs (state_of c.sees.new.self) c.sees.new.self.seen c.loop-turn-test.true
-    (saw (source c.args.tokens) begins_cond _ _ (state_of c.loop-turn.cursor) c.loop-turn.cursor.seen c.sees.ensures.token c.if-not-sees.true c.sees.ensures.state c.sees.ensures.seen refl)
-
-pub read_condition::add_disjs-returns : goal.read_condition::add_disjs-returns
-unfolding disjs
-read_condition::add_disjs-returns t c =
-    list_spent sx.more_disjs pure (map see_disj c.loop-turn.found.items) (λ (k : ℕ). disjs_at c.args.tokens c.args.depth k) c.args.tokens.turns c.loop-turn._turn (some_disjs_at c.args.tokens c.args.depth (state_of c.args.cursor.now) c.args.cursor.now.seen) (state_of c.loop-turn.cursor) c.loop-turn.cursor.seen c.loop-turn.invariant c.loop-turn-test.false refl
+    let got = taken see_disj ((alternatives_at c.args.tokens c.args.depth) (state_of c.items.cursor) c.items.cursor.seen) c.alternatives.result _ _ c.alternatives.new.cursor c.alternatives.ensures c.in_ok-add.ensures in
+    went_on sx.more_disjs pure (map see_disj c.items.found.items) (alternatives_at c.args.tokens c.args.depth) (λ (k : ℕ). disjs_at c.args.tokens c.args.depth k) c.items.left (some_disjs_at c.args.tokens c.args.depth (state_of c.args.cursor.now) c.args.cursor.now.seen) (state_of c.items.cursor) c.items.cursor.seen c.items.invariant
+    (see_disj got.0) (map see_disj c.add.new.found.items) (state_of c.alternatives.new.cursor) c.alternatives.new.cursor.seen got.1 (ap (map see_disj) got.2 ∙ map-append see_disj c.items.found.items _) c.if-left-eq0.false (Read sx.no_disjs (state_of c.sees.new.self) c.sees.new.self.seen)
+    (saw (source c.args.tokens) begins_cond _ _ (state_of c.alternatives.new.cursor) c.alternatives.new.cursor.seen c.sees.ensures.token c.if-not-sees.true c.sees.ensures.state c.sees.ensures.seen refl)
 
 pub read_condition::add_disjs-returns-in_err-add : goal.read_condition::add_disjs-returns-in_err-add
-unfolding disjs
 read_condition::add_disjs-returns-in_err-add t c =
-    halted_adding see_disj (λ _. see_disjs c.add.new.found) (alternatives_at c.args.tokens c.args.depth (state_of c.args.cursor.now) c.args.cursor.now.seen)
+    halted_adding see_disj (λ _. see_disjs c.add.new.found) ((alternatives_at c.args.tokens c.args.depth) (state_of c.items.cursor) c.items.cursor.seen)
     (some_disjs_at c.args.tokens c.args.depth (state_of c.args.cursor.now) c.args.cursor.now.seen) c.alternatives.result _ _ c.from_residual.result c.in_err-add.field-0.0 c.alternatives.new.cursor c.alternatives.new.cursor c.from_residual.ensures.1
-    (λ k z. then_fail _ z) c.alternatives.ensures c.in_err-add.ensures
+    (λ k e. item_failed sx.more_disjs pure (map see_disj c.items.found.items) (alternatives_at c.args.tokens c.args.depth) (λ (k : ℕ). disjs_at c.args.tokens c.args.depth k) c.items.left (some_disjs_at c.args.tokens c.args.depth (state_of c.args.cursor.now) c.args.cursor.now.seen) (state_of c.items.cursor) c.items.cursor.seen c.items.invariant k e) c.alternatives.ensures c.in_err-add.ensures
 
-pub read_condition::add_disjs-returns-in_err-add-2 : goal.read_condition::add_disjs-returns-in_err-add-2
-unfolding disjs
-read_condition::add_disjs-returns-in_err-add-2 t c =
-    halted_adding see_disj (λ _. see_disjs c.add-in-loop-turn.new.found) (alternatives_at c.args.tokens c.args.depth (state_of c.sees.new.self) c.sees.new.self.seen)
-    (some_disjs_at c.args.tokens c.args.depth (state_of c.args.cursor.now) c.args.cursor.now.seen) c.alternatives-in-loop-turn.result _ _ c.from_residual-in_err-add-2.result c.in_err-add-2.field-0.0 c.alternatives-in-loop-turn.new.cursor c.alternatives-in-loop-turn.new.cursor c.from_residual-in_err-add-2.ensures.1
-    (λ k e. list_failed sx.more_disjs pure (map see_disj c.loop-turn.found.items) (λ (k : ℕ). disjs_at c.args.tokens c.args.depth k) c.args.tokens.turns c.loop-turn._turn (some_disjs_at c.args.tokens c.args.depth (state_of c.args.cursor.now) c.args.cursor.now.seen) (state_of c.loop-turn.cursor) c.loop-turn.cursor.seen c.loop-turn.invariant k c.loop-turn-test.true
-    (saw (source c.args.tokens) begins_cond _ _ (state_of c.loop-turn.cursor) c.loop-turn.cursor.seen c.sees.ensures.token c.if-not-sees.false c.sees.ensures.state c.sees.ensures.seen (then_fail _ e))) c.alternatives-in-loop-turn.ensures c.in_err-add-2.ensures
+pub read_condition::add_conditions-items-init : goal.read_condition::add_conditions-items-init
+read_condition::add_conditions-items-init t c =
+    list_opened sx.more_parts pure (map see_part c.args.found.now.items) (some_of sx.more_parts (cond_part_at c.args.tokens c.args.depth) (λ (k : ℕ). more_alternatives_at c.args.tokens c.args.depth k) c.args.tokens.turns (state_of c.args.cursor.now) c.args.cursor.now.seen) (some_conditions_at c.args.tokens c.args.depth (state_of c.args.cursor.now) c.args.cursor.now.seen) (read_whole (some_of sx.more_parts (cond_part_at c.args.tokens c.args.depth) (λ (k : ℕ). more_alternatives_at c.args.tokens c.args.depth k) c.args.tokens.turns (state_of c.args.cursor.now) c.args.cursor.now.seen)) (ap (map see_part) c.requires.none)
 
-pub read_condition::add_conditions-loop-turn-init : goal.read_condition::add_conditions-loop-turn-init
+pub read_condition::add_conditions-items-preserved : goal.read_condition::add_conditions-items-preserved
 unfolding ors
-read_condition::add_conditions-loop-turn-init t c =
-    let got = taken see_part (cond_part_at c.args.tokens c.args.depth (state_of c.args.cursor.now) c.args.cursor.now.seen) c.condition.result _ _ c.condition.new.cursor c.condition.ensures c.in_ok-add.ensures in
-    list_begun sx.more_parts pure _ _ (λ (k : ℕ). more_alternatives_at c.args.tokens c.args.depth k) c.args.tokens.turns (some_conditions_at c.args.tokens c.args.depth (state_of c.args.cursor.now) c.args.cursor.now.seen) (state_of c.condition.new.cursor) c.condition.new.cursor.seen
-    (then_read _ got.1 refl) (ap (map see_part) (got.2 ∙ ap (λ xs. xs ++ got.0 ∷ []) c.requires.none))
+read_condition::add_conditions-items-preserved t c =
+    let got = taken see_part ((cond_part_at c.args.tokens c.args.depth) (state_of c.items.cursor) c.items.cursor.seen) c.condition.result _ _ c.condition.new.cursor c.condition.ensures c.in_ok-add.ensures in
+    went_on sx.more_parts pure (map see_part c.items.found.items) (cond_part_at c.args.tokens c.args.depth) (λ (k : ℕ). more_alternatives_at c.args.tokens c.args.depth k) c.items.left (some_conditions_at c.args.tokens c.args.depth (state_of c.args.cursor.now) c.args.cursor.now.seen) (state_of c.items.cursor) c.items.cursor.seen c.items.invariant
+    (see_part got.0) (map see_part c.add.new.found.items) (state_of c.condition.new.cursor) c.condition.new.cursor.seen got.1 (ap (map see_part) got.2 ∙ map-append see_part c.items.found.items _) c.if-left-eq0.false (some_of sx.more_parts (cond_part_at c.args.tokens c.args.depth) (λ (k : ℕ). more_alternatives_at c.args.tokens c.args.depth k) (c.items.left - 1) (state_of c.takes.new.self) c.takes.new.self.seen)
+    (saw (source c.args.tokens) is_or _ _ (state_of c.condition.new.cursor) c.condition.new.cursor.seen c.sees.ensures.token c.if-not-sees.false c.sees.ensures.state c.sees.ensures.seen (then_read _ c.in_ok-takes.ensures refl))
 
-pub read_condition::add_conditions-loop-turn-preserved : goal.read_condition::add_conditions-loop-turn-preserved
+pub read_condition::add_conditions-returns-then-left-eq0 : goal.read_condition::add_conditions-returns-then-left-eq0
 unfolding ors
-read_condition::add_conditions-loop-turn-preserved t c =
-    let got = taken see_part (cond_part_at c.args.tokens c.args.depth (state_of c.takes.new.self) c.takes.new.self.seen) c.condition-in-loop-turn.result _ _ c.condition-in-loop-turn.new.cursor c.condition-in-loop-turn.ensures c.in_ok-add-2.ensures in
-    list_more sx.more_parts pure (map see_part c.loop-turn.found.items) (λ (k : ℕ). more_alternatives_at c.args.tokens c.args.depth k) c.args.tokens.turns c.loop-turn._turn (some_conditions_at c.args.tokens c.args.depth (state_of c.args.cursor.now) c.args.cursor.now.seen) (state_of c.loop-turn.cursor) c.loop-turn.cursor.seen c.loop-turn.invariant _ _ (state_of c.condition-in-loop-turn.new.cursor) c.condition-in-loop-turn.new.cursor.seen c.loop-turn-test.true
-    (saw (source c.args.tokens) is_or _ _ (state_of c.loop-turn.cursor) c.loop-turn.cursor.seen c.sees.ensures.token c.if-not-sees.false c.sees.ensures.state c.sees.ensures.seen (then_read _ c.in_ok-takes.ensures (then_read _ got.1 refl)))
-    (ap (map see_part) got.2 ∙ map-append see_part c.loop-turn.found.items _)
+read_condition::add_conditions-returns-then-left-eq0 t c =
+    let got = taken see_part ((cond_part_at c.args.tokens c.args.depth) (state_of c.items.cursor) c.items.cursor.seen) c.condition.result _ _ c.condition.new.cursor c.condition.ensures c.in_ok-add.ensures in
+    turns_spent sx.more_parts pure (map see_part c.items.found.items) (cond_part_at c.args.tokens c.args.depth) (λ (k : ℕ). more_alternatives_at c.args.tokens c.args.depth k) c.items.left (some_conditions_at c.args.tokens c.args.depth (state_of c.args.cursor.now) c.args.cursor.now.seen) (state_of c.items.cursor) c.items.cursor.seen c.items.invariant
+    (see_part got.0) (map see_part c.add.new.found.items) (state_of c.condition.new.cursor) c.condition.new.cursor.seen got.1 (ap (map see_part) got.2 ∙ map-append see_part c.items.found.items _) c.if-left-eq0.true refl
 
 pub read_condition::add_conditions-returns-then-not-sees : goal.read_condition::add_conditions-returns-then-not-sees
 unfolding ors
 read_condition::add_conditions-returns-then-not-sees t c =
-    list_ended sx.more_parts pure (map see_part c.loop-turn.found.items) (λ (k : ℕ). more_alternatives_at c.args.tokens c.args.depth k) c.args.tokens.turns c.loop-turn._turn (some_conditions_at c.args.tokens c.args.depth (state_of c.args.cursor.now) c.args.cursor.now.seen) (state_of c.loop-turn.cursor) c.loop-turn.cursor.seen c.loop-turn.invariant sx.no_parts (state_of c.sees.new.self) c.sees.new.self.seen c.loop-turn-test.true
-    (saw (source c.args.tokens) is_or _ _ (state_of c.loop-turn.cursor) c.loop-turn.cursor.seen c.sees.ensures.token c.if-not-sees.true c.sees.ensures.state c.sees.ensures.seen refl)
-
-pub read_condition::add_conditions-returns : goal.read_condition::add_conditions-returns
-unfolding ors
-read_condition::add_conditions-returns t c =
-    list_spent sx.more_parts pure (map see_part c.loop-turn.found.items) (λ (k : ℕ). more_alternatives_at c.args.tokens c.args.depth k) c.args.tokens.turns c.loop-turn._turn (some_conditions_at c.args.tokens c.args.depth (state_of c.args.cursor.now) c.args.cursor.now.seen) (state_of c.loop-turn.cursor) c.loop-turn.cursor.seen c.loop-turn.invariant c.loop-turn-test.false refl
+    let got = taken see_part ((cond_part_at c.args.tokens c.args.depth) (state_of c.items.cursor) c.items.cursor.seen) c.condition.result _ _ c.condition.new.cursor c.condition.ensures c.in_ok-add.ensures in
+    went_on sx.more_parts pure (map see_part c.items.found.items) (cond_part_at c.args.tokens c.args.depth) (λ (k : ℕ). more_alternatives_at c.args.tokens c.args.depth k) c.items.left (some_conditions_at c.args.tokens c.args.depth (state_of c.args.cursor.now) c.args.cursor.now.seen) (state_of c.items.cursor) c.items.cursor.seen c.items.invariant
+    (see_part got.0) (map see_part c.add.new.found.items) (state_of c.condition.new.cursor) c.condition.new.cursor.seen got.1 (ap (map see_part) got.2 ∙ map-append see_part c.items.found.items _) c.if-left-eq0.false (Read sx.no_parts (state_of c.sees.new.self) c.sees.new.self.seen)
+    (saw (source c.args.tokens) is_or _ _ (state_of c.condition.new.cursor) c.condition.new.cursor.seen c.sees.ensures.token c.if-not-sees.true c.sees.ensures.state c.sees.ensures.seen refl)
 
 pub read_condition::add_conditions-returns-in_err-add : goal.read_condition::add_conditions-returns-in_err-add
-unfolding ors
 read_condition::add_conditions-returns-in_err-add t c =
-    halted_adding see_part (λ _. see_parts c.add.new.found) (cond_part_at c.args.tokens c.args.depth (state_of c.args.cursor.now) c.args.cursor.now.seen)
+    halted_adding see_part (λ _. see_parts c.add.new.found) ((cond_part_at c.args.tokens c.args.depth) (state_of c.items.cursor) c.items.cursor.seen)
     (some_conditions_at c.args.tokens c.args.depth (state_of c.args.cursor.now) c.args.cursor.now.seen) c.condition.result _ _ c.from_residual.result c.in_err-add.field-0.0 c.condition.new.cursor c.condition.new.cursor c.from_residual.ensures.1
-    (λ k z. then_fail _ z) c.condition.ensures c.in_err-add.ensures
-
-pub read_condition::add_conditions-returns-in_err-add-2 : goal.read_condition::add_conditions-returns-in_err-add-2
-unfolding ors
-read_condition::add_conditions-returns-in_err-add-2 t c =
-    halted_adding see_part (λ _. see_parts c.add-in-loop-turn.new.found) (cond_part_at c.args.tokens c.args.depth (state_of c.takes.new.self) c.takes.new.self.seen)
-    (some_conditions_at c.args.tokens c.args.depth (state_of c.args.cursor.now) c.args.cursor.now.seen) c.condition-in-loop-turn.result _ _ c.from_residual-in_err-add-2.result c.in_err-add-2.field-0.0 c.condition-in-loop-turn.new.cursor c.condition-in-loop-turn.new.cursor c.from_residual-in_err-add-2.ensures.1
-    (λ k e. list_failed sx.more_parts pure (map see_part c.loop-turn.found.items) (λ (k : ℕ). more_alternatives_at c.args.tokens c.args.depth k) c.args.tokens.turns c.loop-turn._turn (some_conditions_at c.args.tokens c.args.depth (state_of c.args.cursor.now) c.args.cursor.now.seen) (state_of c.loop-turn.cursor) c.loop-turn.cursor.seen c.loop-turn.invariant k c.loop-turn-test.true
-    (saw (source c.args.tokens) is_or _ _ (state_of c.loop-turn.cursor) c.loop-turn.cursor.seen c.sees.ensures.token c.if-not-sees.false c.sees.ensures.state c.sees.ensures.seen (then_read _ c.in_ok-takes.ensures (then_fail _ e)))) c.condition-in-loop-turn.ensures c.in_err-add-2.ensures
+    (λ k e. item_failed sx.more_parts pure (map see_part c.items.found.items) (cond_part_at c.args.tokens c.args.depth) (λ (k : ℕ). more_alternatives_at c.args.tokens c.args.depth k) c.items.left (some_conditions_at c.args.tokens c.args.depth (state_of c.args.cursor.now) c.args.cursor.now.seen) (state_of c.items.cursor) c.items.cursor.seen c.items.invariant k e) c.condition.ensures c.in_err-add.ensures
 
 pub read_condition::add_conditions-returns-in_err-takes : goal.read_condition::add_conditions-returns-in_err-takes
 unfolding ors
 read_condition::add_conditions-returns-in_err-takes t c =
-    halted_by (λ (x : One). x) (λ _. see_parts c.loop-turn.found) (takes (source c.args.tokens) is_or (state_of c.sees.new.self) c.sees.new.self.seen)
+    let got = taken see_part ((cond_part_at c.args.tokens c.args.depth) (state_of c.items.cursor) c.items.cursor.seen) c.condition.result _ _ c.condition.new.cursor c.condition.ensures c.in_ok-add.ensures in
+    halted_by (λ (x : One). x) (λ _. see_parts c.add.new.found) (takes (source c.args.tokens) is_or (state_of c.sees.new.self) c.sees.new.self.seen)
     (some_conditions_at c.args.tokens c.args.depth (state_of c.args.cursor.now) c.args.cursor.now.seen) c.from_residual-in_err-takes.result c.in_err-takes.field-0.0 c.takes.new.self c.takes.new.self c.from_residual-in_err-takes.ensures.1
-    (λ k e. list_failed sx.more_parts pure (map see_part c.loop-turn.found.items) (λ (k : ℕ). more_alternatives_at c.args.tokens c.args.depth k) c.args.tokens.turns c.loop-turn._turn (some_conditions_at c.args.tokens c.args.depth (state_of c.args.cursor.now) c.args.cursor.now.seen) (state_of c.loop-turn.cursor) c.loop-turn.cursor.seen c.loop-turn.invariant k c.loop-turn-test.true
-    (saw (source c.args.tokens) is_or _ _ (state_of c.loop-turn.cursor) c.loop-turn.cursor.seen c.sees.ensures.token c.if-not-sees.false c.sees.ensures.state c.sees.ensures.seen (then_fail _ e))) c.in_err-takes.ensures
+    (λ k e. went_on sx.more_parts pure (map see_part c.items.found.items) (cond_part_at c.args.tokens c.args.depth) (λ (k : ℕ). more_alternatives_at c.args.tokens c.args.depth k) c.items.left (some_conditions_at c.args.tokens c.args.depth (state_of c.args.cursor.now) c.args.cursor.now.seen) (state_of c.items.cursor) c.items.cursor.seen c.items.invariant
+    (see_part got.0) (map see_part c.add.new.found.items) (state_of c.condition.new.cursor) c.condition.new.cursor.seen got.1 (ap (map see_part) got.2 ∙ map-append see_part c.items.found.items _) c.if-left-eq0.false (Fail k)
+    (saw (source c.args.tokens) is_or _ _ (state_of c.condition.new.cursor) c.condition.new.cursor.seen c.sees.ensures.token c.if-not-sees.false c.sees.ensures.state c.sees.ensures.seen (then_fail _ e))) c.in_err-takes.ensures
 
 pub read_query::add_steps-loop-turn-init : goal.read_query::add_steps-loop-turn-init
 unfolding steps start_step
@@ -148,55 +134,50 @@ read_query::add_steps-returns-in_err-add-2 t c =
     (λ k e. list_failed sx.more_steps pure (map see_step c.loop-turn.found.items) (λ (k : ℕ). steps_at c.args.tokens c.args.depth k) c.args.tokens.turns c.loop-turn._turn (some_steps_at c.args.tokens c.args.depth (state_of c.args.cursor.now) c.args.cursor.now.seen) (state_of c.loop-turn.cursor) c.loop-turn.cursor.seen c.loop-turn.invariant k c.loop-turn-test.true
     (saw (source c.args.tokens) begins_step _ _ (state_of c.loop-turn.cursor) c.loop-turn.cursor.seen c.sees.ensures.token c.if-not-sees.false c.sees.ensures.state c.sees.ensures.seen (then_fail _ e))) c.step.ensures c.in_err-add-2.ensures
 
-pub read_query::add_exprs-loop-turn-init : goal.read_query::add_exprs-loop-turn-init
-unfolding more_exprs_of exprs_of
-read_query::add_exprs-loop-turn-init t c =
-    let got = taken see_expr (expr_at c.args.tokens c.args.depth (state_of c.args.cursor.now) c.args.cursor.now.seen) c.expr.result _ _ c.expr.new.cursor c.expr.ensures c.in_ok-add.ensures in
-    list_begun sx.more_exprs (closed_exprs c.args.tokens c.args.depth) _ _ (λ (k : ℕ). more_exprs_at c.args.tokens c.args.depth k) c.args.tokens.turns (closed_exprs_at c.args.tokens c.args.depth (state_of c.args.cursor.now) c.args.cursor.now.seen) (state_of c.expr.new.cursor) c.expr.new.cursor.seen
-    (then_read _ got.1 refl) (ap (map see_expr) (got.2 ∙ ap (λ xs. xs ++ got.0 ∷ []) c.requires.none))
+pub read_query::add_exprs-items-init : goal.read_query::add_exprs-items-init
+read_query::add_exprs-items-init t c =
+    list_opened sx.more_exprs (closed_exprs c.args.tokens c.args.depth) (map see_expr c.args.found.now.items) (some_of sx.more_exprs (expr_at c.args.tokens c.args.depth) (λ (k : ℕ). more_exprs_at c.args.tokens c.args.depth k) c.args.tokens.turns (state_of c.args.cursor.now) c.args.cursor.now.seen) (closed_exprs_at c.args.tokens c.args.depth (state_of c.args.cursor.now) c.args.cursor.now.seen) (both (more_exprs_at c.args.tokens c.args.depth c.args.tokens.turns) sx.more_exprs (closed_exprs c.args.tokens c.args.depth) (expr_at c.args.tokens c.args.depth (state_of c.args.cursor.now) c.args.cursor.now.seen)) (ap (map see_expr) c.requires.none)
 
-pub read_query::add_exprs-loop-turn-preserved : goal.read_query::add_exprs-loop-turn-preserved
-unfolding more_exprs_of exprs_of
-read_query::add_exprs-loop-turn-preserved t c =
-    let got = taken see_expr (expr_at c.args.tokens c.args.depth (state_of c.takes-in-loop-turn.new.self) c.takes-in-loop-turn.new.self.seen) c.expr-in-loop-turn.result _ _ c.expr-in-loop-turn.new.cursor c.expr-in-loop-turn.ensures c.in_ok-add-2.ensures in
-    list_more sx.more_exprs (closed_exprs c.args.tokens c.args.depth) (map see_expr c.loop-turn.found.items) (λ (k : ℕ). more_exprs_at c.args.tokens c.args.depth k) c.args.tokens.turns c.loop-turn._turn (closed_exprs_at c.args.tokens c.args.depth (state_of c.args.cursor.now) c.args.cursor.now.seen) (state_of c.loop-turn.cursor) c.loop-turn.cursor.seen c.loop-turn.invariant _ _ (state_of c.expr-in-loop-turn.new.cursor) c.expr-in-loop-turn.new.cursor.seen c.loop-turn-test.true
-    (saw (source c.args.tokens) is_comma _ _ (state_of c.loop-turn.cursor) c.loop-turn.cursor.seen c.sees.ensures.token c.if-not-sees.false c.sees.ensures.state c.sees.ensures.seen (then_read _ c.in_ok-takes.ensures (then_read _ got.1 refl)))
-    (ap (map see_expr) got.2 ∙ map-append see_expr c.loop-turn.found.items _)
+pub read_query::add_exprs-items-preserved : goal.read_query::add_exprs-items-preserved
+unfolding more_exprs_of
+read_query::add_exprs-items-preserved t c =
+    let got = taken see_expr ((expr_at c.args.tokens c.args.depth) (state_of c.items.cursor) c.items.cursor.seen) c.expr.result _ _ c.expr.new.cursor c.expr.ensures c.in_ok-add.ensures in
+    went_on sx.more_exprs (closed_exprs c.args.tokens c.args.depth) (map see_expr c.items.found.items) (expr_at c.args.tokens c.args.depth) (λ (k : ℕ). more_exprs_at c.args.tokens c.args.depth k) c.items.left (closed_exprs_at c.args.tokens c.args.depth (state_of c.args.cursor.now) c.args.cursor.now.seen) (state_of c.items.cursor) c.items.cursor.seen c.items.invariant
+    (see_expr got.0) (map see_expr c.add.new.found.items) (state_of c.expr.new.cursor) c.expr.new.cursor.seen got.1 (ap (map see_expr) got.2 ∙ map-append see_expr c.items.found.items _) c.if-left-eq0.false (some_of sx.more_exprs (expr_at c.args.tokens c.args.depth) (λ (k : ℕ). more_exprs_at c.args.tokens c.args.depth k) (c.items.left - 1) (state_of c.takes-in-items.new.self) c.takes-in-items.new.self.seen)
+    (saw (source c.args.tokens) is_comma _ _ (state_of c.expr.new.cursor) c.expr.new.cursor.seen c.sees.ensures.token c.if-not-sees.false c.sees.ensures.state c.sees.ensures.seen (then_read _ c.in_ok-takes.ensures refl))
+
+pub read_query::add_exprs-returns-then-left-eq0 : goal.read_query::add_exprs-returns-then-left-eq0
+unfolding more_exprs_of
+read_query::add_exprs-returns-then-left-eq0 t c =
+    let got = taken see_expr ((expr_at c.args.tokens c.args.depth) (state_of c.items.cursor) c.items.cursor.seen) c.expr.result _ _ c.expr.new.cursor c.expr.ensures c.in_ok-add.ensures in
+    turns_spent sx.more_exprs (closed_exprs c.args.tokens c.args.depth) (map see_expr c.items.found.items) (expr_at c.args.tokens c.args.depth) (λ (k : ℕ). more_exprs_at c.args.tokens c.args.depth k) c.items.left (closed_exprs_at c.args.tokens c.args.depth (state_of c.args.cursor.now) c.args.cursor.now.seen) (state_of c.items.cursor) c.items.cursor.seen c.items.invariant
+    (see_expr got.0) (map see_expr c.add.new.found.items) (state_of c.expr.new.cursor) c.expr.new.cursor.seen got.1 (ap (map see_expr) got.2 ∙ map-append see_expr c.items.found.items _) c.if-left-eq0.true refl
 
 pub read_query::add_exprs-returns-then-not-sees : goal.read_query::add_exprs-returns-then-not-sees
-unfolding more_exprs_of exprs_of
+unfolding more_exprs_of
 read_query::add_exprs-returns-then-not-sees t c =
-    handed (λ _. see_exprs c.loop-turn.found) (closed_exprs_at c.args.tokens c.args.depth (state_of c.args.cursor.now) c.args.cursor.now.seen) ((closed_exprs c.args.tokens c.args.depth) (see_exprs c.loop-turn.found) (state_of c.sees.new.self) c.sees.new.self.seen) c.takes.result c.takes.new.self
-    (list_ended sx.more_exprs (closed_exprs c.args.tokens c.args.depth) (map see_expr c.loop-turn.found.items) (λ (k : ℕ). more_exprs_at c.args.tokens c.args.depth k) c.args.tokens.turns c.loop-turn._turn (closed_exprs_at c.args.tokens c.args.depth (state_of c.args.cursor.now) c.args.cursor.now.seen) (state_of c.loop-turn.cursor) c.loop-turn.cursor.seen c.loop-turn.invariant sx.no_exprs (state_of c.sees.new.self) c.sees.new.self.seen c.loop-turn-test.true
-    (saw (source c.args.tokens) is_comma _ _ (state_of c.loop-turn.cursor) c.loop-turn.cursor.seen c.sees.ensures.token c.if-not-sees.true c.sees.ensures.state c.sees.ensures.seen refl)) (closed_by (see_exprs c.loop-turn.found) (takes (source c.args.tokens) is_rparen (state_of c.sees.new.self) c.sees.new.self.seen) c.takes.result c.takes.new.self c.takes.ensures)
-
-pub read_query::add_exprs-returns : goal.read_query::add_exprs-returns
-unfolding more_exprs_of exprs_of
-read_query::add_exprs-returns t c =
-    list_spent sx.more_exprs (closed_exprs c.args.tokens c.args.depth) (map see_expr c.loop-turn.found.items) (λ (k : ℕ). more_exprs_at c.args.tokens c.args.depth k) c.args.tokens.turns c.loop-turn._turn (closed_exprs_at c.args.tokens c.args.depth (state_of c.args.cursor.now) c.args.cursor.now.seen) (state_of c.loop-turn.cursor) c.loop-turn.cursor.seen c.loop-turn.invariant c.loop-turn-test.false refl
+    let got = taken see_expr ((expr_at c.args.tokens c.args.depth) (state_of c.items.cursor) c.items.cursor.seen) c.expr.result _ _ c.expr.new.cursor c.expr.ensures c.in_ok-add.ensures in
+    handed (λ _. see_exprs c.add.new.found) (closed_exprs_at c.args.tokens c.args.depth (state_of c.args.cursor.now) c.args.cursor.now.seen) ((closed_exprs c.args.tokens c.args.depth) (see_exprs c.add.new.found) (state_of c.sees.new.self) c.sees.new.self.seen) c.takes.result c.takes.new.self
+    (went_on sx.more_exprs (closed_exprs c.args.tokens c.args.depth) (map see_expr c.items.found.items) (expr_at c.args.tokens c.args.depth) (λ (k : ℕ). more_exprs_at c.args.tokens c.args.depth k) c.items.left (closed_exprs_at c.args.tokens c.args.depth (state_of c.args.cursor.now) c.args.cursor.now.seen) (state_of c.items.cursor) c.items.cursor.seen c.items.invariant
+    (see_expr got.0) (map see_expr c.add.new.found.items) (state_of c.expr.new.cursor) c.expr.new.cursor.seen got.1 (ap (map see_expr) got.2 ∙ map-append see_expr c.items.found.items _) c.if-left-eq0.false (Read sx.no_exprs (state_of c.sees.new.self) c.sees.new.self.seen)
+    (saw (source c.args.tokens) is_comma _ _ (state_of c.expr.new.cursor) c.expr.new.cursor.seen c.sees.ensures.token c.if-not-sees.true c.sees.ensures.state c.sees.ensures.seen refl))
+    (closed_by (see_exprs c.add.new.found) (takes (source c.args.tokens) is_rparen (state_of c.sees.new.self) c.sees.new.self.seen) c.takes.result c.takes.new.self c.takes.ensures)
 
 pub read_query::add_exprs-returns-in_err-add : goal.read_query::add_exprs-returns-in_err-add
-unfolding more_exprs_of exprs_of
 read_query::add_exprs-returns-in_err-add t c =
-    halted_adding see_expr (λ _. see_exprs c.add.new.found) (expr_at c.args.tokens c.args.depth (state_of c.args.cursor.now) c.args.cursor.now.seen)
+    halted_adding see_expr (λ _. see_exprs c.add.new.found) ((expr_at c.args.tokens c.args.depth) (state_of c.items.cursor) c.items.cursor.seen)
     (closed_exprs_at c.args.tokens c.args.depth (state_of c.args.cursor.now) c.args.cursor.now.seen) c.expr.result _ _ c.from_residual.result c.in_err-add.field-0.0 c.expr.new.cursor c.expr.new.cursor c.from_residual.ensures.1
-    (λ k z. then_fail _ z) c.expr.ensures c.in_err-add.ensures
-
-pub read_query::add_exprs-returns-in_err-add-2 : goal.read_query::add_exprs-returns-in_err-add-2
-unfolding more_exprs_of exprs_of
-read_query::add_exprs-returns-in_err-add-2 t c =
-    halted_adding see_expr (λ _. see_exprs c.add-in-loop-turn.new.found) (expr_at c.args.tokens c.args.depth (state_of c.takes-in-loop-turn.new.self) c.takes-in-loop-turn.new.self.seen)
-    (closed_exprs_at c.args.tokens c.args.depth (state_of c.args.cursor.now) c.args.cursor.now.seen) c.expr-in-loop-turn.result _ _ c.from_residual-in_err-add-2.result c.in_err-add-2.field-0.0 c.expr-in-loop-turn.new.cursor c.expr-in-loop-turn.new.cursor c.from_residual-in_err-add-2.ensures.1
-    (λ k e. list_failed sx.more_exprs (closed_exprs c.args.tokens c.args.depth) (map see_expr c.loop-turn.found.items) (λ (k : ℕ). more_exprs_at c.args.tokens c.args.depth k) c.args.tokens.turns c.loop-turn._turn (closed_exprs_at c.args.tokens c.args.depth (state_of c.args.cursor.now) c.args.cursor.now.seen) (state_of c.loop-turn.cursor) c.loop-turn.cursor.seen c.loop-turn.invariant k c.loop-turn-test.true
-    (saw (source c.args.tokens) is_comma _ _ (state_of c.loop-turn.cursor) c.loop-turn.cursor.seen c.sees.ensures.token c.if-not-sees.false c.sees.ensures.state c.sees.ensures.seen (then_read _ c.in_ok-takes.ensures (then_fail _ e)))) c.expr-in-loop-turn.ensures c.in_err-add-2.ensures
+    (λ k e. item_failed sx.more_exprs (closed_exprs c.args.tokens c.args.depth) (map see_expr c.items.found.items) (expr_at c.args.tokens c.args.depth) (λ (k : ℕ). more_exprs_at c.args.tokens c.args.depth k) c.items.left (closed_exprs_at c.args.tokens c.args.depth (state_of c.args.cursor.now) c.args.cursor.now.seen) (state_of c.items.cursor) c.items.cursor.seen c.items.invariant k e) c.expr.ensures c.in_err-add.ensures
 
 pub read_query::add_exprs-returns-in_err-takes : goal.read_query::add_exprs-returns-in_err-takes
-unfolding more_exprs_of exprs_of
+unfolding more_exprs_of
 read_query::add_exprs-returns-in_err-takes t c =
-    halted_by (λ (x : One). x) (λ _. see_exprs c.loop-turn.found) (takes (source c.args.tokens) is_comma (state_of c.sees.new.self) c.sees.new.self.seen)
-    (closed_exprs_at c.args.tokens c.args.depth (state_of c.args.cursor.now) c.args.cursor.now.seen) c.from_residual-in_err-takes.result c.in_err-takes.field-0.0 c.takes-in-loop-turn.new.self c.takes-in-loop-turn.new.self c.from_residual-in_err-takes.ensures.1
-    (λ k e. list_failed sx.more_exprs (closed_exprs c.args.tokens c.args.depth) (map see_expr c.loop-turn.found.items) (λ (k : ℕ). more_exprs_at c.args.tokens c.args.depth k) c.args.tokens.turns c.loop-turn._turn (closed_exprs_at c.args.tokens c.args.depth (state_of c.args.cursor.now) c.args.cursor.now.seen) (state_of c.loop-turn.cursor) c.loop-turn.cursor.seen c.loop-turn.invariant k c.loop-turn-test.true
-    (saw (source c.args.tokens) is_comma _ _ (state_of c.loop-turn.cursor) c.loop-turn.cursor.seen c.sees.ensures.token c.if-not-sees.false c.sees.ensures.state c.sees.ensures.seen (then_fail _ e))) c.in_err-takes.ensures
+    let got = taken see_expr ((expr_at c.args.tokens c.args.depth) (state_of c.items.cursor) c.items.cursor.seen) c.expr.result _ _ c.expr.new.cursor c.expr.ensures c.in_ok-add.ensures in
+    halted_by (λ (x : One). x) (λ _. see_exprs c.add.new.found) (takes (source c.args.tokens) is_comma (state_of c.sees.new.self) c.sees.new.self.seen)
+    (closed_exprs_at c.args.tokens c.args.depth (state_of c.args.cursor.now) c.args.cursor.now.seen) c.from_residual-in_err-takes.result c.in_err-takes.field-0.0 c.takes-in-items.new.self c.takes-in-items.new.self c.from_residual-in_err-takes.ensures.1
+    (λ k e. went_on sx.more_exprs (closed_exprs c.args.tokens c.args.depth) (map see_expr c.items.found.items) (expr_at c.args.tokens c.args.depth) (λ (k : ℕ). more_exprs_at c.args.tokens c.args.depth k) c.items.left (closed_exprs_at c.args.tokens c.args.depth (state_of c.args.cursor.now) c.args.cursor.now.seen) (state_of c.items.cursor) c.items.cursor.seen c.items.invariant
+    (see_expr got.0) (map see_expr c.add.new.found.items) (state_of c.expr.new.cursor) c.expr.new.cursor.seen got.1 (ap (map see_expr) got.2 ∙ map-append see_expr c.items.found.items _) c.if-left-eq0.false (Fail k)
+    (saw (source c.args.tokens) is_comma _ _ (state_of c.expr.new.cursor) c.expr.new.cursor.seen c.sees.ensures.token c.if-not-sees.false c.sees.ensures.state c.sees.ensures.seen (then_fail _ e))) c.in_err-takes.ensures
 
 pub read_condition::conds-returns : goal.read_condition::conds-returns
 unfolding conds_of

@@ -1,9 +1,10 @@
-use Rattle.std.proofs.Common.{◌≡◌, map, ◌-◌, ◌+◌, ◌*◌}
+use Rattle.std.proofs.Common.{◌≡◌, ℕ, map, ◌-◌, ◌+◌, ◌*◌}
 use Rattle.guard_syntax.specs.Syntax as sx
 use Rattle.guard_syntax.specs.code.Seen.{see_disj, see_part, see_expr, see_step}
 use Rattle.literal_parser.specs.code.Parser.{pure}
 use Rattle.literal_parser.specs.code.Reads.{state_of}
-use Rattle.guard_parser.specs.code.GrammarReads.{listed, closed_exprs, closed_exprs_at, more_exprs_at, some_conditions_at, more_alternatives_at, some_disjs_at, disjs_at, some_steps_at, steps_at}
+use Rattle.guard_parser.specs.code.GrammarReads.{listed, alternatives_at, cond_part_at, expr_at, closed_exprs, closed_exprs_at, more_exprs_at, some_conditions_at, more_alternatives_at, some_disjs_at, disjs_at, some_steps_at, steps_at}
+use Rattle.guard_parser.proofs.CodeSteps.{some_of}
 use Rattle.guard_parser.proofs.+conditions.Given as goal
 
 abbrev pub decreases-read_query::filter : goal.decreases-read_query::filter
@@ -60,22 +61,31 @@ decreases-read_condition::add_disjs l = 16 * l.depth + 10
 abbrev pub decreases-read_condition::conds : goal.decreases-read_condition::conds
 decreases-read_condition::conds l = 16 * l.depth + 11
 
-abbrev pub invariant-read_condition::add_disjs-loop-turn : goal.invariant-read_condition::add_disjs-loop-turn
-invariant-read_condition::add_disjs-loop-turn l =
+abbrev pub invariant-read_condition::add_disjs-items : goal.invariant-read_condition::add_disjs-items
+invariant-read_condition::add_disjs-items l =
     some_disjs_at l.tokens l.depth (state_of l.fn.cursor) l.fn.cursor.seen
-    ≡ listed sx.more_disjs pure (map see_disj l.found.items) (disjs_at l.tokens l.depth (l.tokens.turns - l._turn) (state_of l.cursor) l.cursor.seen)
+    ≡ listed sx.more_disjs pure (map see_disj l.found.items) (some_of sx.more_disjs (alternatives_at l.tokens l.depth) (λ (k : ℕ). disjs_at l.tokens l.depth k) l.left (state_of l.cursor) l.cursor.seen)
 
-abbrev pub invariant-read_condition::add_conditions-loop-turn : goal.invariant-read_condition::add_conditions-loop-turn
-invariant-read_condition::add_conditions-loop-turn l =
+abbrev pub decreases-read_condition::add_disjs-items : goal.decreases-read_condition::add_disjs-items
+decreases-read_condition::add_disjs-items l = l.left
+
+abbrev pub invariant-read_condition::add_conditions-items : goal.invariant-read_condition::add_conditions-items
+invariant-read_condition::add_conditions-items l =
     some_conditions_at l.tokens l.depth (state_of l.fn.cursor) l.fn.cursor.seen
-    ≡ listed sx.more_parts pure (map see_part l.found.items) (more_alternatives_at l.tokens l.depth (l.tokens.turns - l._turn) (state_of l.cursor) l.cursor.seen)
+    ≡ listed sx.more_parts pure (map see_part l.found.items) (some_of sx.more_parts (cond_part_at l.tokens l.depth) (λ (k : ℕ). more_alternatives_at l.tokens l.depth k) l.left (state_of l.cursor) l.cursor.seen)
+
+abbrev pub decreases-read_condition::add_conditions-items : goal.decreases-read_condition::add_conditions-items
+decreases-read_condition::add_conditions-items l = l.left
 
 abbrev pub invariant-read_query::add_steps-loop-turn : goal.invariant-read_query::add_steps-loop-turn
 invariant-read_query::add_steps-loop-turn l =
     some_steps_at l.tokens l.depth (state_of l.fn.cursor) l.fn.cursor.seen
     ≡ listed sx.more_steps pure (map see_step l.found.items) (steps_at l.tokens l.depth (l.tokens.turns - l._turn) (state_of l.cursor) l.cursor.seen)
 
-abbrev pub invariant-read_query::add_exprs-loop-turn : goal.invariant-read_query::add_exprs-loop-turn
-invariant-read_query::add_exprs-loop-turn l =
+abbrev pub invariant-read_query::add_exprs-items : goal.invariant-read_query::add_exprs-items
+invariant-read_query::add_exprs-items l =
     closed_exprs_at l.tokens l.depth (state_of l.fn.cursor) l.fn.cursor.seen
-    ≡ listed sx.more_exprs (closed_exprs l.tokens l.depth) (map see_expr l.found.items) (more_exprs_at l.tokens l.depth (l.tokens.turns - l._turn) (state_of l.cursor) l.cursor.seen)
+    ≡ listed sx.more_exprs (closed_exprs l.tokens l.depth) (map see_expr l.found.items) (some_of sx.more_exprs (expr_at l.tokens l.depth) (λ (k : ℕ). more_exprs_at l.tokens l.depth k) l.left (state_of l.cursor) l.cursor.seen)
+
+abbrev pub decreases-read_query::add_exprs-items : goal.decreases-read_query::add_exprs-items
+decreases-read_query::add_exprs-items l = l.left

@@ -3,67 +3,61 @@ use Rattle.std.proofs.lemmas.List.{map-append}
 use Rattle.guard_syntax.specs.Syntax as sx
 use Rattle.guard_syntax.specs.code.Seen.{see_body, see_conds, see_opt_conds, see_disj, see_let, see_part, see_query}
 use Rattle.literal_parser.specs.Forms.{begins_part, is_let, is_or, is_lbrace, is_rbrace, is_when, is_type_name, is_name, leads, text_of}
-use Rattle.literal_parser.specs.code.Parser.{One, Read, pure, and_then, opens, takes, has}
+use Rattle.literal_parser.specs.code.Parser.{One, Read, Fail, pure, and_then, opens, takes, has}
 use Rattle.literal_parser.specs.code.Reads.{site_of, source, state_of}
 use Rattle.guard_parser.specs.declared.lead.Lead.{Lead}
 use Rattle.guard_parser.specs.code.Leads.{lead_of, led_by}
 use Rattle.guard_parser.specs.code.Reading.{BodyItems, ors, disj_of, full_part, body_of, body_items, guarded_part, kinds_part, headed, judged, ruled}
 use Rattle.guard_parser.specs.code.GrammarReads.{inner, see_items, see_parts, inner_body_at, body_items_at, closed_items_at, closed_body_at, let_at, disj_at, ors_at, some_parts_at, full_part_at, guarded_at, kinds_at, judged_at, named_at, tested_at, conds_at, opt_conds_at, query_at}
-use Rattle.guard_parser.proofs.CodeSteps.{then_read, then_fail, saw, handed, halted, halted_by, halted_adding, taken, both, closed_by, list_begun, list_more, list_ended, list_failed, list_spent, deeper}
+use Rattle.guard_parser.proofs.CodeSteps.{then_read, then_fail, saw, handed, halted, halted_by, halted_adding, taken, both, closed_by, deeper, some_of, read_whole, list_opened, item_failed, turns_spent, went_on}
 use Rattle.guard_parser.proofs.BodySteps.{closes, items_begun, lets_more, parts_more, items_ended, items_failed, items_spent, none_filled, some_filled, none_there, some_there}
 use Rattle.guard_parser.proofs.Leads.{condition_led}
 use Rattle.guard_parser.proofs.Rooms.{roomy_reads, full_stops, room_left, no_room}
 use Rattle.guard_parser.proofs.SeenForms.{disj-made, body-made, guarded-made, kinds-made, block-made}
 use Rattle.guard_parser.proofs.read.+bodies.Goals as goal
 
-pub add_parts-loop-turn-init : goal.add_parts-loop-turn-init
-unfolding ors
-add_parts-loop-turn-init t c =
-    let got = taken see_part (full_part_at c.args.tokens c.args.depth (state_of c.args.cursor.now) c.args.cursor.now.seen) c.part.result _ _ c.part.new.cursor c.part.ensures c.in_ok-add.ensures in
-    list_begun sx.more_parts pure _ _ (λ (k : ℕ). ors_at c.args.tokens c.args.depth k) c.args.tokens.turns (some_parts_at c.args.tokens c.args.depth (state_of c.args.cursor.now) c.args.cursor.now.seen) (state_of c.part.new.cursor) c.part.new.cursor.seen
-    (then_read _ got.1 refl) (ap (map see_part) (got.2 ∙ ap (λ xs. xs ++ got.0 ∷ []) c.requires.none))
+pub add_parts-items-init : goal.add_parts-items-init
+add_parts-items-init t c =
+    list_opened sx.more_parts pure (map see_part c.args.found.now.items) (some_of sx.more_parts (full_part_at c.args.tokens c.args.depth) (λ (k : ℕ). ors_at c.args.tokens c.args.depth k) c.args.tokens.turns (state_of c.args.cursor.now) c.args.cursor.now.seen) (some_parts_at c.args.tokens c.args.depth (state_of c.args.cursor.now) c.args.cursor.now.seen) (read_whole (some_of sx.more_parts (full_part_at c.args.tokens c.args.depth) (λ (k : ℕ). ors_at c.args.tokens c.args.depth k) c.args.tokens.turns (state_of c.args.cursor.now) c.args.cursor.now.seen)) (ap (map see_part) c.requires.none)
 
-pub add_parts-loop-turn-preserved : goal.add_parts-loop-turn-preserved
+pub add_parts-items-preserved : goal.add_parts-items-preserved
 unfolding ors
-add_parts-loop-turn-preserved t c =
-    let got = taken see_part (full_part_at c.args.tokens c.args.depth (state_of c.takes.new.self) c.takes.new.self.seen) c.part-in-loop-turn.result _ _ c.part-in-loop-turn.new.cursor c.part-in-loop-turn.ensures c.in_ok-add-2.ensures in
-    list_more sx.more_parts pure (map see_part c.loop-turn.found.items) (λ (k : ℕ). ors_at c.args.tokens c.args.depth k) c.args.tokens.turns c.loop-turn._turn (some_parts_at c.args.tokens c.args.depth (state_of c.args.cursor.now) c.args.cursor.now.seen) (state_of c.loop-turn.cursor) c.loop-turn.cursor.seen c.loop-turn.invariant _ _ (state_of c.part-in-loop-turn.new.cursor) c.part-in-loop-turn.new.cursor.seen c.loop-turn-test.true
-    (saw (source c.args.tokens) is_or _ _ (state_of c.loop-turn.cursor) c.loop-turn.cursor.seen c.sees.ensures.token c.if-not-sees.false c.sees.ensures.state c.sees.ensures.seen (then_read _ c.in_ok-takes.ensures (then_read _ got.1 refl)))
-    (ap (map see_part) got.2 ∙ map-append see_part c.loop-turn.found.items _)
+add_parts-items-preserved t c =
+    let got = taken see_part ((full_part_at c.args.tokens c.args.depth) (state_of c.items.cursor) c.items.cursor.seen) c.part.result _ _ c.part.new.cursor c.part.ensures c.in_ok-add.ensures in
+    went_on sx.more_parts pure (map see_part c.items.found.items) (full_part_at c.args.tokens c.args.depth) (λ (k : ℕ). ors_at c.args.tokens c.args.depth k) c.items.left (some_parts_at c.args.tokens c.args.depth (state_of c.args.cursor.now) c.args.cursor.now.seen) (state_of c.items.cursor) c.items.cursor.seen c.items.invariant
+    (see_part got.0) (map see_part c.add.new.found.items) (state_of c.part.new.cursor) c.part.new.cursor.seen got.1 (ap (map see_part) got.2 ∙ map-append see_part c.items.found.items _) c.if-left-eq0.false (some_of sx.more_parts (full_part_at c.args.tokens c.args.depth) (λ (k : ℕ). ors_at c.args.tokens c.args.depth k) (c.items.left - 1) (state_of c.takes.new.self) c.takes.new.self.seen)
+    (saw (source c.args.tokens) is_or _ _ (state_of c.part.new.cursor) c.part.new.cursor.seen c.sees.ensures.token c.if-not-sees.false c.sees.ensures.state c.sees.ensures.seen (then_read _ c.in_ok-takes.ensures refl))
+
+pub add_parts-returns-then-left-eq0 : goal.add_parts-returns-then-left-eq0
+unfolding ors
+add_parts-returns-then-left-eq0 t c =
+    let got = taken see_part ((full_part_at c.args.tokens c.args.depth) (state_of c.items.cursor) c.items.cursor.seen) c.part.result _ _ c.part.new.cursor c.part.ensures c.in_ok-add.ensures in
+    turns_spent sx.more_parts pure (map see_part c.items.found.items) (full_part_at c.args.tokens c.args.depth) (λ (k : ℕ). ors_at c.args.tokens c.args.depth k) c.items.left (some_parts_at c.args.tokens c.args.depth (state_of c.args.cursor.now) c.args.cursor.now.seen) (state_of c.items.cursor) c.items.cursor.seen c.items.invariant
+    (see_part got.0) (map see_part c.add.new.found.items) (state_of c.part.new.cursor) c.part.new.cursor.seen got.1 (ap (map see_part) got.2 ∙ map-append see_part c.items.found.items _) c.if-left-eq0.true refl
 
 pub add_parts-returns-then-not-sees : goal.add_parts-returns-then-not-sees
 unfolding ors
 add_parts-returns-then-not-sees t c =
-    list_ended sx.more_parts pure (map see_part c.loop-turn.found.items) (λ (k : ℕ). ors_at c.args.tokens c.args.depth k) c.args.tokens.turns c.loop-turn._turn (some_parts_at c.args.tokens c.args.depth (state_of c.args.cursor.now) c.args.cursor.now.seen) (state_of c.loop-turn.cursor) c.loop-turn.cursor.seen c.loop-turn.invariant sx.no_parts (state_of c.sees.new.self) c.sees.new.self.seen c.loop-turn-test.true
-    (saw (source c.args.tokens) is_or _ _ (state_of c.loop-turn.cursor) c.loop-turn.cursor.seen c.sees.ensures.token c.if-not-sees.true c.sees.ensures.state c.sees.ensures.seen refl)
-
-pub add_parts-returns : goal.add_parts-returns
-unfolding ors
-add_parts-returns t c =
-    list_spent sx.more_parts pure (map see_part c.loop-turn.found.items) (λ (k : ℕ). ors_at c.args.tokens c.args.depth k) c.args.tokens.turns c.loop-turn._turn (some_parts_at c.args.tokens c.args.depth (state_of c.args.cursor.now) c.args.cursor.now.seen) (state_of c.loop-turn.cursor) c.loop-turn.cursor.seen c.loop-turn.invariant c.loop-turn-test.false refl
+    let got = taken see_part ((full_part_at c.args.tokens c.args.depth) (state_of c.items.cursor) c.items.cursor.seen) c.part.result _ _ c.part.new.cursor c.part.ensures c.in_ok-add.ensures in
+    went_on sx.more_parts pure (map see_part c.items.found.items) (full_part_at c.args.tokens c.args.depth) (λ (k : ℕ). ors_at c.args.tokens c.args.depth k) c.items.left (some_parts_at c.args.tokens c.args.depth (state_of c.args.cursor.now) c.args.cursor.now.seen) (state_of c.items.cursor) c.items.cursor.seen c.items.invariant
+    (see_part got.0) (map see_part c.add.new.found.items) (state_of c.part.new.cursor) c.part.new.cursor.seen got.1 (ap (map see_part) got.2 ∙ map-append see_part c.items.found.items _) c.if-left-eq0.false (Read sx.no_parts (state_of c.sees.new.self) c.sees.new.self.seen)
+    (saw (source c.args.tokens) is_or _ _ (state_of c.part.new.cursor) c.part.new.cursor.seen c.sees.ensures.token c.if-not-sees.true c.sees.ensures.state c.sees.ensures.seen refl)
 
 pub add_parts-returns-in_err-add : goal.add_parts-returns-in_err-add
-unfolding ors
 add_parts-returns-in_err-add t c =
-    halted_adding see_part (λ _. see_parts c.add.new.found) (full_part_at c.args.tokens c.args.depth (state_of c.args.cursor.now) c.args.cursor.now.seen)
+    halted_adding see_part (λ _. see_parts c.add.new.found) ((full_part_at c.args.tokens c.args.depth) (state_of c.items.cursor) c.items.cursor.seen)
     (some_parts_at c.args.tokens c.args.depth (state_of c.args.cursor.now) c.args.cursor.now.seen) c.part.result _ _ c.from_residual.result c.in_err-add.field-0.0 c.part.new.cursor c.part.new.cursor c.from_residual.ensures.1
-    (λ k z. then_fail _ z) c.part.ensures c.in_err-add.ensures
-
-pub add_parts-returns-in_err-add-2 : goal.add_parts-returns-in_err-add-2
-unfolding ors
-add_parts-returns-in_err-add-2 t c =
-    halted_adding see_part (λ _. see_parts c.add-in-loop-turn.new.found) (full_part_at c.args.tokens c.args.depth (state_of c.takes.new.self) c.takes.new.self.seen)
-    (some_parts_at c.args.tokens c.args.depth (state_of c.args.cursor.now) c.args.cursor.now.seen) c.part-in-loop-turn.result _ _ c.from_residual-in_err-add-2.result c.in_err-add-2.field-0.0 c.part-in-loop-turn.new.cursor c.part-in-loop-turn.new.cursor c.from_residual-in_err-add-2.ensures.1
-    (λ k e. list_failed sx.more_parts pure (map see_part c.loop-turn.found.items) (λ (k : ℕ). ors_at c.args.tokens c.args.depth k) c.args.tokens.turns c.loop-turn._turn (some_parts_at c.args.tokens c.args.depth (state_of c.args.cursor.now) c.args.cursor.now.seen) (state_of c.loop-turn.cursor) c.loop-turn.cursor.seen c.loop-turn.invariant k c.loop-turn-test.true
-    (saw (source c.args.tokens) is_or _ _ (state_of c.loop-turn.cursor) c.loop-turn.cursor.seen c.sees.ensures.token c.if-not-sees.false c.sees.ensures.state c.sees.ensures.seen (then_read _ c.in_ok-takes.ensures (then_fail _ e)))) c.part-in-loop-turn.ensures c.in_err-add-2.ensures
+    (λ k e. item_failed sx.more_parts pure (map see_part c.items.found.items) (full_part_at c.args.tokens c.args.depth) (λ (k : ℕ). ors_at c.args.tokens c.args.depth k) c.items.left (some_parts_at c.args.tokens c.args.depth (state_of c.args.cursor.now) c.args.cursor.now.seen) (state_of c.items.cursor) c.items.cursor.seen c.items.invariant k e) c.part.ensures c.in_err-add.ensures
 
 pub add_parts-returns-in_err-takes : goal.add_parts-returns-in_err-takes
 unfolding ors
 add_parts-returns-in_err-takes t c =
-    halted_by (λ (x : One). x) (λ _. see_parts c.loop-turn.found) (takes (source c.args.tokens) is_or (state_of c.sees.new.self) c.sees.new.self.seen)
+    let got = taken see_part ((full_part_at c.args.tokens c.args.depth) (state_of c.items.cursor) c.items.cursor.seen) c.part.result _ _ c.part.new.cursor c.part.ensures c.in_ok-add.ensures in
+    halted_by (λ (x : One). x) (λ _. see_parts c.add.new.found) (takes (source c.args.tokens) is_or (state_of c.sees.new.self) c.sees.new.self.seen)
     (some_parts_at c.args.tokens c.args.depth (state_of c.args.cursor.now) c.args.cursor.now.seen) c.from_residual-in_err-takes.result c.in_err-takes.field-0.0 c.takes.new.self c.takes.new.self c.from_residual-in_err-takes.ensures.1
-    (λ k e. list_failed sx.more_parts pure (map see_part c.loop-turn.found.items) (λ (k : ℕ). ors_at c.args.tokens c.args.depth k) c.args.tokens.turns c.loop-turn._turn (some_parts_at c.args.tokens c.args.depth (state_of c.args.cursor.now) c.args.cursor.now.seen) (state_of c.loop-turn.cursor) c.loop-turn.cursor.seen c.loop-turn.invariant k c.loop-turn-test.true
-    (saw (source c.args.tokens) is_or _ _ (state_of c.loop-turn.cursor) c.loop-turn.cursor.seen c.sees.ensures.token c.if-not-sees.false c.sees.ensures.state c.sees.ensures.seen (then_fail _ e))) c.in_err-takes.ensures
+    (λ k e. went_on sx.more_parts pure (map see_part c.items.found.items) (full_part_at c.args.tokens c.args.depth) (λ (k : ℕ). ors_at c.args.tokens c.args.depth k) c.items.left (some_parts_at c.args.tokens c.args.depth (state_of c.args.cursor.now) c.args.cursor.now.seen) (state_of c.items.cursor) c.items.cursor.seen c.items.invariant
+    (see_part got.0) (map see_part c.add.new.found.items) (state_of c.part.new.cursor) c.part.new.cursor.seen got.1 (ap (map see_part) got.2 ∙ map-append see_part c.items.found.items _) c.if-left-eq0.false (Fail k)
+    (saw (source c.args.tokens) is_or _ _ (state_of c.part.new.cursor) c.part.new.cursor.seen c.sees.ensures.token c.if-not-sees.false c.sees.ensures.state c.sees.ensures.seen (then_fail _ e))) c.in_err-takes.ensures
 
 pub disj-returns : goal.disj-returns
 unfolding disj_of

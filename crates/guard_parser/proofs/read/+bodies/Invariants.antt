@@ -1,9 +1,10 @@
-use Rattle.std.proofs.Common.{◌≡◌, map, ◌-◌, ◌+◌, ◌*◌}
+use Rattle.std.proofs.Common.{◌≡◌, ℕ, map, ◌-◌, ◌+◌, ◌*◌}
 use Rattle.guard_syntax.specs.Syntax as sx
 use Rattle.guard_syntax.specs.code.Seen.{see_disj, see_let, see_part}
 use Rattle.literal_parser.specs.code.Parser.{pure}
 use Rattle.literal_parser.specs.code.Reads.{state_of}
-use Rattle.guard_parser.specs.code.GrammarReads.{listed, gathered, body_items_at, closed_items_at, closed_body_at, some_parts_at, ors_at}
+use Rattle.guard_parser.specs.code.GrammarReads.{listed, gathered, body_items_at, closed_items_at, closed_body_at, some_parts_at, full_part_at, ors_at}
+use Rattle.guard_parser.proofs.CodeSteps.{some_of}
 use Rattle.guard_parser.proofs.read.+bodies.Given as goal
 
 abbrev pub decreases-body : goal.decreases-body
@@ -30,10 +31,13 @@ decreases-disj l = 8 * l.depth + 4
 abbrev pub decreases-add_items : goal.decreases-add_items
 decreases-add_items l = 8 * l.depth + 5
 
-abbrev pub invariant-add_parts-loop-turn : goal.invariant-add_parts-loop-turn
-invariant-add_parts-loop-turn l =
+abbrev pub invariant-add_parts-items : goal.invariant-add_parts-items
+invariant-add_parts-items l =
     some_parts_at l.tokens l.depth (state_of l.fn.cursor) l.fn.cursor.seen
-    ≡ listed sx.more_parts pure (map see_part l.found.items) (ors_at l.tokens l.depth (l.tokens.turns - l._turn) (state_of l.cursor) l.cursor.seen)
+    ≡ listed sx.more_parts pure (map see_part l.found.items) (some_of sx.more_parts (full_part_at l.tokens l.depth) (λ (k : ℕ). ors_at l.tokens l.depth k) l.left (state_of l.cursor) l.cursor.seen)
+
+abbrev pub decreases-add_parts-items : goal.decreases-add_parts-items
+decreases-add_parts-items l = l.left
 
 abbrev pub invariant-add_items-loop-turn : goal.invariant-add_items-loop-turn
 invariant-add_items-loop-turn l =
