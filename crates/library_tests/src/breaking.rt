@@ -1,10 +1,9 @@
 //! Files of a system whose reads fail in mid-stream.
-use crate::files::end_of;
+use crate::files::loads;
 use guard_io::{Files, RealFiles};
 use std::alloc::Allocator;
 use std::fs::{self, Metadata, OpenFile, OpenOptions};
 use std::io::{self, ErrorKind, Read, Seek, SeekFrom, Write};
-use std::test::Fail;
 
 fn broken() -> io::Error {
     io::Error::from(ErrorKind::ConnectionReset)
@@ -14,25 +13,28 @@ fn reset<T>() -> io::Result<T> {
     Err(io::Error::from(ErrorKind::ConnectionReset))
 }
 
-/// Gives the bytes of `left` one at a time, and then an error.
+/// What each file begins with.
+const TEXT: &[u8] = b"abc";
+
+/// Gives the bytes of the text one at a time, and then an error.
 #[derive(Drop)]
-struct Breaking<'a> {
-    left: &'a [u8],
+struct Breaking {
+    /// How many it gave.
+    given: usize,
 }
 
-impl Read for Breaking<'_> {
+impl Read for Breaking {
     fn read(&mut self, buf: &mut [u8]) -> io::Result<usize> {
-        let left: &[u8] = self.left;
-        if left.is_empty() || buf.is_empty() {
+        if TEXT.len() <= self.given || buf.is_empty() {
             return Err(broken());
         }
-        buf[0] = left[0];
-        self.left = &left[1..];
+        buf[0] = TEXT[self.given];
+        self.given += 1;
         Ok(1)
     }
 }
 
-impl Write for Breaking<'_> {
+impl Write for Breaking {
     fn write(&mut self, _buf: &[u8]) -> io::Result<usize> {
         Err(broken())
     }
@@ -42,13 +44,13 @@ impl Write for Breaking<'_> {
     }
 }
 
-impl Seek for Breaking<'_> {
+impl Seek for Breaking {
     fn seek(&mut self, _to: SeekFrom) -> io::Result<u64> {
         reset()
     }
 }
 
-impl OpenFile for Breaking<'_> {
+impl OpenFile for Breaking {
     fn metadata(&self) -> io::Result<Metadata> {
         reset()
     }
@@ -66,22 +68,20 @@ impl OpenFile for Breaking<'_> {
     }
 }
 
-/// A system in which each file has these bytes.
+/// A system in which each file is such a one.
 #[derive(Drop)]
-struct System<'a> {
-    text: &'a [u8],
-}
+struct System;
 
-impl<'a> fs::Files for System<'a> {
-    type File = Breaking<'a>;
+impl fs::Files for System {
+    type File = Breaking;
 
-    type Dir = Breaking<'a>;
+    type Dir = Breaking;
 
-    fn open_file(&self, _how: &OpenOptions, _path: &str) -> io::Result<Breaking<'a>> {
-        Ok(Breaking { left: self.text })
+    fn open_file(&self, _how: &OpenOptions, _path: &str) -> io::Result<Breaking> {
+        Ok(Breaking { given: 0 })
     }
 
-    fn open_dir(&self, _path: &str) -> io::Result<Breaking<'a>> {
+    fn open_dir(&self, _path: &str) -> io::Result<Breaking> {
         reset()
     }
 
@@ -119,18 +119,14 @@ impl<'a> fs::Files for System<'a> {
 }
 
 #[test]
-fn keeps_what_came_before_a_failed_read(rt: HostRuntime) -> Result<(), Fail> {
-    let system = System { text: b"abc" };
+fn keeps_what_came_before_a_failed_read(rt: HostRuntime) {
     let mut files = RealFiles {
-        rt: &system,
+        rt: &System,
         faults: 0,
     };
     let mut text = Vec::new(rt.alloc());
-    for most in [0, 2, 3, 4] {
-        let end = end_of(files.load("a", most, &mut text));
-        text.extend_from_slice(end)?;
-    }
+    let asked = &[("a", 0), ("a", 2), ("a", 3), ("a", 4)];
+    assert!(rt; loads(&mut files, asked, &mut text));
     assert!(rt; text.as_slice() == b" loaded\nab loaded\nabc loaded\nabc failed\n".as_slice());
     assert!(rt; files.faults == 1);
-    Ok(())
 }

@@ -1,5 +1,5 @@
 //! Cells of names: which one the use of a name leads to, and what fills it.
-ghost use Rattle.std.specs.Prelude.{◌≡◌, IfOk, IfSome, Some, option_and_then, option_map, true};
+ghost use Rattle.std.specs.Prelude.{◌≡◌, IfSome, Some, option_and_then, option_map, true};
 ghost use Rattle.rule_names.specs.EnclosingScopes.{home_of};
 ghost use Rattle.rule_names.specs.Pieces.{piece_at};
 ghost use Rattle.rule_names.specs.code.Files.{file_of as seen};
@@ -12,8 +12,7 @@ use crate::worlds::file_of;
 use guard_syntax::{Origin, Part, Ref, Row};
 use rule_names::{Piece, RuleFile};
 use scope_frames::{Cell, Frames};
-use std::alloc::{AllocError, Global};
-use std::test::Fail;
+use std::alloc::Global;
 
 /// A file with a let, a rule with a parameter, a let and a capture, and a call of it.
 const CALLED: &str = "let t = a
@@ -38,6 +37,19 @@ const INNER: u32 = 16;
 const OUTER: u32 = 20;
 
 const CAPTURE: u32 = 34;
+
+/// The cells of these in the frame of the call, that of the outer let in the frame of the file: the parameter has the argument
+/// of the call, the inner let its expression, the capture its filter.
+const PARAM_CELL: Cell = Cell { frame: 1, slot: 37 };
+
+const INNER_CELL: Cell = Cell { frame: 1, slot: 7 };
+
+const OUTER_CELL: Cell = Cell { frame: 0, slot: 2 };
+
+const CAPTURE_CELL: Cell = Cell { frame: 1, slot: 25 };
+
+/// The cell of the inner let in another frame of the call.
+const OTHER_CELL: Cell = Cell { frame: 2, slot: 7 };
 
 /// The line that gives rows.
 const LINE: u64 = 4;
@@ -79,88 +91,77 @@ fn rule_scope(file: &RuleFile, rule: u32) -> Option<u32>
     }
 }
 
-/// The scope of a frame, where it is that of the file or of a call.
-fn frame_scope(frames: &Frames<'_>, frame: u64) -> Option<u32>
-    ensures { IfSome result (λ scope. StandsFor (seen frames.now.file.now) frames.now.entered.keys frame scope) }
-{
-    match frames.entered.as_slice().get(frame as usize) {
-        Some(it) => match it.parent {
-            Some(_) => called_scope(frames.file, it.site),
-            None => Some(0),
-        },
-        None => None,
-    }
-}
-
-/// Whether a site stands in the scope of a frame.
+/// Whether a site stands in the scope of a frame, which is that of the file or of a call.
 fn stands_in(frames: &Frames<'_>, frame: u64, site: u32) -> bool
     ensures { result ≡ true → StandsFor (seen frames.now.file.now) frames.now.entered.keys frame (home_of (seen frames.now.file.now) site) }
 {
     if frames.file.raw().places.as_slice().len() <= site as usize {
         return false;
     }
-    match frame_scope(frames, frame) {
-        Some(scope) => scope == frames.file.home(site),
-        None => false,
+    let Some(entered) = frames.entered.as_slice().get(frame as usize) else {
+        return false;
+    };
+    match entered.parent {
+        Some(_) => match called_scope(frames.file, entered.site) {
+            Some(scope) => scope == frames.file.home(site),
+            None => false,
+        },
+        None => frames.file.home(site) == 0,
     }
 }
 
 /// The frame of the file, the first of all.
-fn started(alloc: Global, file: &RuleFile) -> Result<Frames<'_>, AllocError>
-    ensures { IfOk result (λ frames. AreEntered (seen frames.file.now) frames.entered.keys) }
+fn started(alloc: Global, file: &RuleFile) -> Option<Frames<'_>>
+    ensures { IfSome result (λ frames. AreEntered (seen frames.file.now) frames.entered.keys) }
 {
     let mut frames = Frames::new(alloc, file);
-    let _top = frames.enter(None, 0, ROOT)?;
-    Ok(frames)
+    match frames.enter(None, 0, ROOT) {
+        Ok(_) => Some(frames),
+        Err(_) => None,
+    }
 }
 
-/// The frame of the call of a site in a frame; None where it may not be entered.
-fn enter_called(
-    frames: &mut Frames<'_>,
-    parent: u64,
-    call: u32,
-    current: Ref,
-) -> Result<Option<u64>, AllocError>
+/// The frame of the call in that of the file; None where it may not be entered, or there is no memory.
+fn enter_called(frames: &mut Frames<'_>, current: Ref) -> Option<u64>
     requires { AreEntered (seen frames.old.file.now) frames.old.entered.keys }
     ensures { AreEntered (seen frames.new.file.now) frames.new.entered.keys }
 {
-    if !stands_in(frames, parent, call) {
-        return Ok(None);
-    }
-    match called_scope(frames.file, call) {
-        Some(_) => Ok(Some(frames.enter(Some(parent), call, current)?)),
-        None => Ok(None),
-    }
-}
-
-/// The cell of the use of a name at a site, in a frame; None where it is no such use.
-fn cell_at(frames: &Frames<'_>, frame: u64, site: u32) -> Option<Cell>
-    requires { AreEntered (seen frames.now.file.now) frames.now.entered.keys }
-    ensures { IfSome result (HasCell (seen frames.now.file.now) frames.now.entered.keys) }
-{
-    if !stands_in(frames, frame, site) {
+    if !stands_in(frames, 0, CALL) {
         return None;
     }
-    match frames.file.bind(site) {
-        Some(_) => Some(frames.lookup(frame, site)),
+    match called_scope(frames.file, CALL) {
+        Some(_) => frames.enter(Some(0), CALL, current).ok(),
         None => None,
     }
 }
 
-/// Fills the cell of the use of a name in a frame with a row, and says whether it was empty.
-fn fill_at(frames: &mut Frames<'_>, frame: u64, site: u32, row: Row) -> Result<bool, AllocError>
+/// The cell of the use of a name at a site, in the frame of the call; None where it is no such use.
+fn cell_at(frames: &Frames<'_>, site: u32) -> Option<Cell>
+    requires { AreEntered (seen frames.now.file.now) frames.now.entered.keys }
+    ensures { IfSome result (HasCell (seen frames.now.file.now) frames.now.entered.keys) }
+{
+    if !stands_in(frames, 1, site) {
+        return None;
+    }
+    match frames.file.bind(site) {
+        Some(_) => Some(frames.lookup(1, site)),
+        None => None,
+    }
+}
+
+/// Fills the cell of the use of a name in the frame of the call with a row, and says whether it was empty.
+fn fill_at(frames: &mut Frames<'_>, site: u32, row: Row) -> bool
     requires { AreEntered (seen frames.old.file.now) frames.old.entered.keys }
     ensures { AreEntered (seen frames.new.file.now) frames.new.entered.keys }
 {
-    let Some(cell) = cell_at(frames, frame, site) else {
-        return Ok(false);
+    let Some(cell) = cell_at(frames, site) else {
+        return false;
     };
     match frames.rows(cell) {
-        Some(_) => return Ok(false),
+        Some(_) => return false,
         None => {}
     }
-    frames.fill(cell, LINE, &[row])?;
-    Ok(true)
+    frames.fill(cell, LINE, &[row]).is_ok()
 }
 
 /// Whether a cell has the line and a row.
@@ -171,72 +172,36 @@ fn is_filled(frames: &Frames<'_>, cell: Cell, row: Row) -> bool {
     }
 }
 
-/// The cell of a frame and the site of what gives its name.
-fn cell(frame: u64, slot: u32) -> Cell {
-    Cell { frame, slot }
-}
-
-/// Whether a frame was entered and has a number.
-fn is_number(frame: Option<u64>, number: u64) -> bool {
-    frame == Some(number)
-}
-
 /// The frame of the file has the number 0, that of the call 1.
-fn has_cells(alloc: Global, file: &RuleFile) -> Result<bool, AllocError> {
-    let mut frames = started(alloc, file)?;
-    let called = enter_called(&mut frames, 0, CALL, ROOT)?;
-    let found = are_cells(&frames);
-    Ok(is_number(called, 1) && found)
-}
-
-/// The parameter has the argument of the call, at 37; the let in the body its expression, at 7, the one of the file at 2;
-/// the capture its filter, at 25.
-fn are_cells(frames: &Frames<'_>) -> bool
-    requires { AreEntered (seen frames.now.file.now) frames.now.entered.keys }
-{
-    let param = cell_at(frames, 1, PARAM);
-    let inner = cell_at(frames, 1, INNER);
-    let outer = cell_at(frames, 1, OUTER);
-    let capture = cell_at(frames, 1, CAPTURE);
-    param == Some(cell(1, 37))
-        && inner == Some(cell(1, 7))
-        && outer == Some(cell(0, 2))
-        && capture == Some(cell(1, 25))
-}
-
 #[test]
-fn each_use_has_its_cell(rt: HostRuntime) -> Result<(), Fail> {
-    let file = file_of(rt.alloc(), CALLED)?;
-    assert!(rt; has_cells(rt.alloc(), &file)?);
-    Ok(())
+fn each_use_has_its_cell(rt: HostRuntime) {
+    let file = file_of(rt.alloc(), CALLED).expect(&rt, "a file");
+    let Some(mut frames) = started(rt.alloc(), &file) else {
+        panic!(rt; "no frame")
+    };
+    assert!(rt; enter_called(&mut frames, ROOT) == Some(1));
+    assert!(rt; cell_at(&frames, PARAM) == Some(PARAM_CELL));
+    assert!(rt; cell_at(&frames, INNER) == Some(INNER_CELL));
+    assert!(rt; cell_at(&frames, OUTER) == Some(OUTER_CELL));
+    assert!(rt; cell_at(&frames, CAPTURE) == Some(CAPTURE_CELL));
 }
 
 /// What fills a cell stays when another is filled, and when a frame is entered, whose own cells are empty. The same
 /// arguments give the same frame, and another value another one.
-fn keeps_cells(alloc: Global, file: &RuleFile) -> Result<bool, AllocError> {
-    let mut frames = started(alloc, file)?;
-    let called = enter_called(&mut frames, 0, CALL, ROOT)?;
-    let empty = frames.rows(cell(1, 7)).is_none();
-    let inner = fill_at(&mut frames, 1, INNER, Row::Found(VALUE))?;
-    let param = fill_at(&mut frames, 1, PARAM, Row::Found(ROOT))?;
-    let other = enter_called(&mut frames, 0, CALL, VALUE)?;
-    let again = enter_called(&mut frames, 0, CALL, ROOT)?;
-    let kept = are_kept(&frames);
-    let numbers = is_number(called, 1) && is_number(other, 2) && is_number(again, 1);
-    Ok(numbers && empty && inner && param && kept)
-}
-
-/// Whether the two cells have what filled them, and a third of the frame, as one of the other frame, has nothing.
-fn are_kept(frames: &Frames<'_>) -> bool {
-    is_filled(frames, cell(1, 7), Row::Found(VALUE))
-        && is_filled(frames, cell(1, 37), Row::Found(ROOT))
-        && frames.rows(cell(1, 25)).is_none()
-        && frames.rows(cell(2, 7)).is_none()
-}
-
 #[test]
-fn a_cell_keeps_what_fills_it(rt: HostRuntime) -> Result<(), Fail> {
-    let file = file_of(rt.alloc(), CALLED)?;
-    assert!(rt; keeps_cells(rt.alloc(), &file)?);
-    Ok(())
+fn a_cell_keeps_what_fills_it(rt: HostRuntime) {
+    let file = file_of(rt.alloc(), CALLED).expect(&rt, "a file");
+    let Some(mut frames) = started(rt.alloc(), &file) else {
+        panic!(rt; "no frame")
+    };
+    assert!(rt; enter_called(&mut frames, ROOT) == Some(1));
+    assert!(rt; frames.rows(INNER_CELL).is_none());
+    assert!(rt; fill_at(&mut frames, INNER, Row::Found(VALUE)));
+    assert!(rt; fill_at(&mut frames, PARAM, Row::Found(ROOT)));
+    assert!(rt; enter_called(&mut frames, VALUE) == Some(2));
+    assert!(rt; enter_called(&mut frames, ROOT) == Some(1));
+    assert!(rt; is_filled(&frames, INNER_CELL, Row::Found(VALUE)));
+    assert!(rt; is_filled(&frames, PARAM_CELL, Row::Found(ROOT)));
+    assert!(rt; frames.rows(CAPTURE_CELL).is_none());
+    assert!(rt; frames.rows(OTHER_CELL).is_none());
 }

@@ -9,9 +9,7 @@ use doc_values::RULES_LIMIT;
 use guard_io::{CleanSink, MemSink};
 use guard_syntax::{Origin, Ref};
 use report_text::{Entry, Params, ReportFault, Shown, Texts, Word, write_entry};
-use rule_names::RuleFile;
-use std::alloc::{AllocError, Global};
-use std::test::Fail;
+use std::alloc::Global;
 use value_compare::Store;
 
 /// Rules in which the site 2 begins at the byte 6.
@@ -24,47 +22,29 @@ const CALL: Entry = Entry {
     part: 2,
 };
 
-/// How the line of the entry is written over a text that is handed in for that of the rules.
-fn write(
-    alloc: Global,
-    file: &RuleFile,
-    text: &str,
-    sink: &mut MemSink,
-) -> Result<Result<(), ReportFault>, AllocError> {
-    let template = template_of(alloc, "a")?;
-    let store = Store::new(alloc, &template, file);
+/// Whether a sink of this room takes so much of the line over a text that is handed in for that of the rules. It fails, and
+/// counts one fault, exactly where it has not taken the end of the line.
+fn is_written(alloc: Global, store: &Store<'_, '_>, text: &str, room: usize, taken: &[u8]) -> bool {
     if RULES_LIMIT < text.len() {
-        return Err(AllocError);
+        return false;
     }
     let texts = Texts {
         rules: text,
         template: "",
         params: None,
     };
-    Ok(write_entry(alloc, &texts, &store, &CALL, sink))
-}
-
-/// Whether a sink of this room takes so much of the line over a text. It fails, and counts one fault, exactly where it has not
-/// taken the end of the line.
-fn is_written(
-    alloc: Global,
-    file: &RuleFile,
-    text: &str,
-    room: usize,
-    taken: &[u8],
-) -> Result<bool, AllocError> {
     let mut sink = MemSink {
         bytes: Vec::new(alloc),
         room: room as u64,
         faults: 0,
     };
-    let faults: u64 = match write(alloc, file, text, &mut sink)? {
+    let faults: u64 = match write_entry(alloc, &texts, store, &CALL, &mut sink) {
         Ok(()) => 0,
         Err(ReportFault::Failed) => 1,
-        Err(ReportFault::Memory) => return Err(AllocError),
+        Err(ReportFault::Memory) => return false,
     };
     let wanted = if taken.ends_with(b"\n") { 0 } else { 1 };
-    Ok(faults == wanted && sink.faults == wanted && sink.bytes.as_slice() == taken)
+    faults == wanted && sink.faults == wanted && sink.bytes.as_slice() == taken
 }
 
 /// Room for each line.
@@ -88,41 +68,37 @@ const LINES: &[(&str, &[u8])] = &[
     ("abcd\r\nx", b"  call 2:1 missing by 2:1\n"),
 ];
 
-/// The first text over which another line is written.
-fn first_wrong(alloc: Global, file: &RuleFile) -> Result<Option<&'static str>, AllocError> {
-    for (text, taken) in LINES {
-        if !is_written(alloc, file, *text, ROOM, *taken)? {
-            return Ok(Some(*text));
-        }
-    }
-    Ok(None)
-}
-
 #[test]
-fn places_are_found_by_lines(rt: HostRuntime) -> Result<(), Fail> {
-    let file = file_of(rt.alloc(), RULES)?;
-    assert_eq!(rt; first_wrong(rt.alloc(), &file)?, None);
-    Ok(())
+fn places_are_found_by_lines(rt: HostRuntime) {
+    let file = file_of(rt.alloc(), RULES).expect(&rt, "a file");
+    let Some(template) = template_of(rt.alloc(), "a") else {
+        panic!(rt; "no template")
+    };
+    let store = Store::new(rt.alloc(), &template, &file);
+    for (text, taken) in LINES {
+        assert!(rt;
+            is_written(rt.alloc(), &store, *text, ROOM, *taken),
+            "{text}"
+        );
+    }
 }
 
 /// The line over the rules.
 const LINE: &[u8] = b"  call 1:7 missing by 1:7\n";
 
-/// The first room with which a sink takes more or less.
-fn first_wrong_room(alloc: Global, file: &RuleFile) -> Result<Option<usize>, AllocError> {
-    for room in 0..LINE.len() + 1 {
-        if !is_written(alloc, file, RULES, room, &LINE[..room])? {
-            return Ok(Some(room));
-        }
-    }
-    Ok(None)
-}
-
 #[test]
-fn a_sink_takes_what_has_room(rt: HostRuntime) -> Result<(), Fail> {
-    let file = file_of(rt.alloc(), RULES)?;
-    assert_eq!(rt; first_wrong_room(rt.alloc(), &file)?, None);
-    Ok(())
+fn a_sink_takes_what_has_room(rt: HostRuntime) {
+    let file = file_of(rt.alloc(), RULES).expect(&rt, "a file");
+    let Some(template) = template_of(rt.alloc(), "a") else {
+        panic!(rt; "no template")
+    };
+    let store = Store::new(rt.alloc(), &template, &file);
+    for room in 0..LINE.len() + 1 {
+        assert!(rt;
+            is_written(rt.alloc(), &store, RULES, room, &LINE[..room]),
+            "{room}"
+        );
+    }
 }
 
 /// The map of the template with the entry of the parameters behind its own: its values stand where they do in their own texts.
@@ -139,8 +115,8 @@ const VALUES: &[&[u8]] = &[
     b"  /B params:3:9 value by 1:7\n",
 ];
 
-/// The line of a value that the store knows.
-fn line_of_value(alloc: Global, store: &Store<'_, '_>, value: Ref) -> Result<Vec<u8>, AllocError>
+/// Whether this is the line of a value that the store knows.
+fn has_line(alloc: Global, store: &Store<'_, '_>, value: Ref, wanted: &[u8]) -> bool
     requires known { is_known_ref (see_store store.now) value ≡ true }
     requires given { is_made value.origin ≡ false }
 {
@@ -161,47 +137,35 @@ fn line_of_value(alloc: Global, store: &Store<'_, '_>, value: Ref) -> Result<Vec
         bytes: Vec::new(alloc),
     };
     match write_entry(alloc, &texts, store, &entry, &mut sink) {
-        Ok(()) => Ok(sink.bytes),
-        Err(_) => Err(AllocError),
+        Ok(()) => sink.bytes.as_slice() == wanted,
+        Err(_) => false,
     }
 }
 
 /// Whether this is the line of the value of a number.
-fn is_line_of(
-    alloc: Global,
-    store: &Store<'_, '_>,
-    node: u32,
-    wanted: &[u8],
-) -> Result<bool, AllocError> {
+fn is_line_of(alloc: Global, store: &Store<'_, '_>, node: u32, wanted: &[u8]) -> bool {
     let value = Ref {
         origin: Origin::Template,
         node,
         key: false,
     };
     match store.view(value) {
-        Some(_) => {
-            let line = line_of_value(alloc, store, value)?;
-            Ok(line.as_slice() == wanted)
-        }
-        None => Ok(false),
+        Some(_) => has_line(alloc, store, value, wanted),
+        None => false,
     }
-}
-
-/// The number of the first value that has another line.
-fn first_wrong_value(alloc: Global, store: &Store<'_, '_>) -> Result<Option<usize>, AllocError> {
-    for node in 0..VALUES.len() {
-        if !is_line_of(alloc, store, node as u32, VALUES[node])? {
-            return Ok(Some(node));
-        }
-    }
-    Ok(None)
 }
 
 #[test]
-fn parameters_have_their_own_places(rt: HostRuntime) -> Result<(), Fail> {
-    let file = file_of(rt.alloc(), RULES)?;
-    let data = json_template_of(rt.alloc(), DATA)?;
+fn parameters_have_their_own_places(rt: HostRuntime) {
+    let file = file_of(rt.alloc(), RULES).expect(&rt, "a file");
+    let Some(data) = json_template_of(rt.alloc(), DATA) else {
+        panic!(rt; "no template")
+    };
     let store = Store::new(rt.alloc(), &data, &file);
-    assert_eq!(rt; first_wrong_value(rt.alloc(), &store)?, None);
-    Ok(())
+    for node in 0..VALUES.len() {
+        assert!(rt;
+            is_line_of(rt.alloc(), &store, node as u32, VALUES[node]),
+            "{node}"
+        );
+    }
 }

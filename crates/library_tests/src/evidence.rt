@@ -6,7 +6,6 @@ use evidence_lines::{Cites, Evidence, Line, LineKind, Outcome, Version};
 use evidence_text::{print_line, read_evidence};
 use guard_syntax::Verdict;
 use std::alloc::{AllocError, Global};
-use std::test::Fail;
 
 /// Evidence of one rule with one test, and evidence with each form of a field, with the number of its lines.
 const TEXTS: &[(&str, u64)] = &[
@@ -66,48 +65,39 @@ fn has_lines(evidence: &Evidence, last: u64) -> bool {
 }
 
 /// Whether a text is read as evidence of so many lines, and printed again as it was.
-fn comes_back(alloc: Global, text: &str, last: u64) -> Result<bool, AllocError> {
+fn comes_back(alloc: Global, text: &str, last: u64) -> bool {
     match read_evidence(alloc, text.as_bytes()) {
-        Ok(evidence) => {
-            let printed = text_of(alloc, &evidence)?;
-            Ok(printed.as_slice() == text.as_bytes() && has_lines(&evidence, last))
-        }
-        Err(_) => Ok(false),
+        Ok(evidence) => match text_of(alloc, &evidence) {
+            Ok(printed) => printed.as_slice() == text.as_bytes() && has_lines(&evidence, last),
+            Err(_) => false,
+        },
+        Err(_) => false,
     }
 }
 
 #[test]
-fn evidence_is_read_and_printed_again(rt: HostRuntime) -> Result<(), Fail> {
+fn evidence_is_read_and_printed_again(rt: HostRuntime) {
     for (text, last) in TEXTS {
-        if !comes_back(rt.alloc(), *text, *last)? {
-            return Err(Fail::from(*text));
-        }
+        assert!(rt; comes_back(rt.alloc(), *text, *last), "{text}");
     }
-    Ok(())
 }
 
-/// A line without cites.
-fn plain_line() -> Line<'static> {
-    Line {
+/// Adds a line without cites, and says what its number is.
+fn number_of_line(evidence: &mut Evidence) -> Result<u64, AllocError> {
+    evidence.push(Line {
         kind: LineKind::Rule,
         frame: Some(1),
         site: Some(6),
         cites: Cites::new(&[]),
         outcome: Outcome::Verdict(Verdict::Pass),
-    }
-}
-
-/// Whether evidence that is empty numbers its lines from 1.
-fn numbers_lines(evidence: &mut Evidence) -> Result<bool, AllocError> {
-    let first = evidence.push(plain_line())?;
-    let second = evidence.push(plain_line())?;
-    Ok(first == 1 && second == 2 && has_lines(evidence, 2))
+    })
 }
 
 #[test]
-fn lines_are_numbered_from_one(rt: HostRuntime) -> Result<(), Fail> {
+fn lines_are_numbered_from_one(rt: HostRuntime) {
     let mut evidence = Evidence::new(rt.alloc(), Version::Two);
-    assert!(rt; numbers_lines(&mut evidence)?);
+    assert!(rt; number_of_line(&mut evidence).expect(&rt, "a line") == 1);
+    assert!(rt; number_of_line(&mut evidence).expect(&rt, "a line") == 2);
+    assert!(rt; has_lines(&evidence, 2));
     assert!(rt; evidence.version() == Version::Two);
-    Ok(())
 }

@@ -2,29 +2,21 @@
 use guard_io::{CleanFiles, Files, LoadFault, MemFiles, RealFiles};
 use std::alloc::{AllocError, Global};
 use std::fs;
-use std::test::Fail;
 
-/// How a load ended.
-pub(crate) fn end_of(load: Result<(), LoadFault>) -> &'static [u8] {
-    match load {
-        Ok(()) => b" loaded\n",
-        Err(LoadFault::Failed) => b" failed\n",
-        Err(LoadFault::Memory) => b" no memory\n",
-    }
-}
-
-/// What comes of loads by names and lengths, one after another into one text: what each appends, and how it ends.
-fn loads<F: Files>(
-    alloc: Global,
-    files: &mut F,
-    asked: &[(&str, u64)],
-) -> Result<Vec<u8>, AllocError> {
-    let mut text = Vec::new(alloc);
+/// Loads files by names and lengths, one after another into one text: what each load appends, and how it ends. Whether there
+/// was memory for it.
+pub(crate) fn loads<F: Files>(files: &mut F, asked: &[(&str, u64)], text: &mut Vec<u8>) -> bool {
     for (name, most) in asked {
-        let end = end_of(files.load(name, *most, &mut text));
-        text.extend_from_slice(end)?;
+        let end = match files.load(name, *most, text) {
+            Ok(()) => b" loaded\n".as_slice(),
+            Err(LoadFault::Failed) => b" failed\n".as_slice(),
+            Err(LoadFault::Memory) => return false,
+        };
+        if text.extend_from_slice(end).is_err() {
+            return false;
+        }
     }
-    Ok(text)
+    true
 }
 
 /// Names and contents. Two pairs have the name `a`, and the first counts.
@@ -35,16 +27,12 @@ const PAIRS: &[(&str, &[u8])] = &[
     ("empty", b""),
 ];
 
-fn pair(alloc: Global, name: &str, bytes: &[u8]) -> Result<(String, Vec<u8>), AllocError> {
-    let name = String::from_str(alloc, name)?;
-    let bytes = Vec::from_slice(alloc, bytes)?;
-    Ok((name, bytes))
-}
-
 fn pairs(alloc: Global) -> Result<Vec<(String, Vec<u8>)>, AllocError> {
     let mut pairs = Vec::new(alloc);
     for (name, bytes) in PAIRS {
-        pairs.push(pair(alloc, name, bytes)?)?;
+        let name = String::from_str(alloc, name)?;
+        let bytes = Vec::from_slice(alloc, bytes)?;
+        pairs.push((name, bytes))?;
     }
     Ok(pairs)
 }
@@ -63,31 +51,31 @@ const ASKED: &[(&str, u64)] = &[
 ];
 
 #[test]
-fn files_in_memory_fail_by_name_and_number(rt: HostRuntime) -> Result<(), Fail> {
+fn files_in_memory_fail_by_name_and_number(rt: HostRuntime) {
     let mut files = MemFiles {
-        names: pairs(rt.alloc())?,
-        failing: vec![in rt.alloc(); 2, 7]?,
+        names: pairs(rt.alloc()).expect(&rt, "pairs"),
+        failing: vec![in rt.alloc(); 2, 7].expect(&rt, "numbers"),
         calls: 0,
         faults: 0,
     };
-    let text = loads(rt.alloc(), &mut files, ASKED)?;
+    let mut text = Vec::new(rt.alloc());
+    assert!(rt; loads(&mut files, ASKED, &mut text));
     assert!(rt;
         text.as_slice()
             == b"one loaded\ntw loaded\n failed\n failed\none loaded\n loaded\n loaded\n failed\n failed\n".as_slice()
     );
     assert!(rt; files.calls == 9 && files.faults == 4);
-    Ok(())
 }
 
 #[test]
-fn clean_files_do_not_fail(rt: HostRuntime) -> Result<(), Fail> {
+fn clean_files_do_not_fail(rt: HostRuntime) {
     let mut files = CleanFiles {
-        names: pairs(rt.alloc())?,
+        names: pairs(rt.alloc()).expect(&rt, "pairs"),
     };
     let asked = &[("a", 10), ("b", 2), ("c", 10), ("empty", 10)];
-    let text = loads(rt.alloc(), &mut files, asked)?;
+    let mut text = Vec::new(rt.alloc());
+    assert!(rt; loads(&mut files, asked, &mut text));
     assert!(rt; text.as_slice() == b"one loaded\ntw loaded\n loaded\n loaded\n".as_slice());
-    Ok(())
 }
 
 /// A file that takes more than one read.
@@ -105,37 +93,22 @@ fn is_front(text: &[u8], written: &[u8], length: usize) -> bool {
 /// How many bytes are asked for at most, and how many the long file has for that.
 const FRONTS: &[(u64, usize)] = &[(80000, 70001), (70001, 70001), (65537, 65537), (5, 5)];
 
-/// Whether as many bytes of the long file are loaded as are asked for and there.
-fn are_loaded<F: Files>(alloc: Global, files: &mut F, written: &[u8]) -> Result<bool, AllocError> {
-    for (most, length) in FRONTS {
-        let text = loads(alloc, files, &[(LONG, *most)])?;
-        if !is_front(&text, written, *length) {
-            return Ok(false);
-        }
-    }
-    Ok(true)
-}
-
-/// Whether what is not there and what is no file cannot be loaded.
-fn are_not_loaded<F: Files>(alloc: Global, files: &mut F) -> Result<bool, AllocError> {
-    let text = loads(alloc, files, &[("missing_test.bin", 5), (".", 5)])?;
-    Ok(text.as_slice() == b" failed\n failed\n".as_slice())
-}
-
-/// The bytes of the long file.
-fn long_bytes(alloc: Global) -> Result<Vec<u8>, AllocError> {
-    let mut bytes = vec![in alloc; 7u8; 70000]?;
-    bytes.push(8)?;
-    Ok(bytes)
-}
-
 #[test]
-fn loads_a_file_of_the_system(rt: HostRuntime) -> Result<(), Fail> {
-    let written = long_bytes(rt.alloc())?;
-    fs::write(&rt, LONG, written.as_slice())?;
+fn loads_a_file_of_the_system(rt: HostRuntime) {
+    let mut written = vec![in rt.alloc(); 7u8; 70000].expect(&rt, "bytes");
+    written.push(8).expect(&rt, "a byte");
+    fs::write(&rt, LONG, written.as_slice()).expect(&rt, "a file");
     let mut files = RealFiles { rt: &rt, faults: 0 };
-    assert!(rt; are_loaded(rt.alloc(), &mut files, &written)? && files.faults == 0);
-    assert!(rt; are_not_loaded(rt.alloc(), &mut files)? && files.faults == 2);
-    fs::remove_file(&rt, LONG)?;
-    Ok(())
+    for (most, length) in FRONTS {
+        let mut text = Vec::new(rt.alloc());
+        assert!(rt; loads(&mut files, &[(LONG, *most)], &mut text), "{most}");
+        assert!(rt; is_front(&text, &written, *length), "{most}");
+    }
+    assert!(rt; files.faults == 0);
+    // What is not there, and what is no file.
+    let mut text = Vec::new(rt.alloc());
+    assert!(rt; loads(&mut files, &[("missing_test.bin", 5), (".", 5)], &mut text));
+    assert!(rt; text.as_slice() == b" failed\n failed\n".as_slice());
+    assert!(rt; files.faults == 2);
+    fs::remove_file(&rt, LONG).expect(&rt, "no file");
 }

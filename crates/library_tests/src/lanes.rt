@@ -1,7 +1,6 @@
 //! Scans of bytes at each length and border of lanes.
 use byte_lanes::{ByteSet, count_byte, first_special, is_ascii, line_starts};
-use std::alloc::{AllocError, Global};
-use std::test::Fail;
+use std::alloc::Global;
 
 /// The greatest length that is tried.
 const LONGEST: usize = 130;
@@ -45,48 +44,42 @@ fn is_counted(text: &[u8], place: usize) -> bool {
     }
 }
 
-/// The starts of the lines of a text that is not long.
-fn starts_of(alloc: Global, text: &[u8]) -> Result<Vec<u32>, AllocError> {
+/// Whether these are the starts of the lines of a text that is not long.
+fn are_starts(alloc: Global, text: &[u8], wanted: &[u32]) -> bool {
     if 1000 < text.len() {
-        return Err(AllocError);
+        return false;
     }
-    line_starts(alloc, text)
+    match line_starts(alloc, text) {
+        Ok(starts) => starts.as_slice() == wanted,
+        Err(_) => false,
+    }
 }
 
 /// Whether a line begins behind the one newline, if its place is in the text.
-fn is_line_begun(alloc: Global, text: &[u8], place: usize) -> Result<bool, AllocError> {
-    let starts = starts_of(alloc, text)?;
-    match starts.as_slice() {
-        [0] => Ok(place == text.len()),
-        [0, start] => Ok(place < text.len() && *start as usize == place.saturating_add(1)),
-        _ => Ok(false),
+fn is_line_begun(alloc: Global, text: &[u8], place: usize) -> bool {
+    if LONGEST < text.len() {
+        return false;
     }
+    if text.len() <= place {
+        return are_starts(alloc, text, &[0]);
+    }
+    are_starts(alloc, text, &[0, place as u32 + 1])
 }
 
-/// Whether each scan of a text of this length is right that has the byte in question at this place, or none where the place
-/// is the length.
-fn is_scanned(alloc: Global, place: usize, length: usize) -> Result<bool, AllocError> {
+/// Each scan of a text of each length that has the byte in question at each place, or none where the place is the length.
+#[test]
+fn scans_at_each_place_of_each_length(rt: HostRuntime) {
     let quote = around(b'"');
     let letter = around(0xe9);
     let newline = around(b'\n');
-    if !is_found(part(&quote, place, length), place)
-        || !is_counted(part(&letter, place, length), place)
-    {
-        return Ok(false);
-    }
-    is_line_begun(alloc, part(&newline, place, length), place)
-}
-
-#[test]
-fn scans_at_each_place_of_each_length(rt: HostRuntime) -> Result<(), Fail> {
     for length in 0..LONGEST + 1 {
         for place in 0..length + 1 {
-            if !is_scanned(rt.alloc(), place, length)? {
-                return Err(Fail::from((place, length)));
-            }
+            let is_found = is_found(part(&quote, place, length), place);
+            let is_counted = is_counted(part(&letter, place, length), place);
+            let is_begun = is_line_begun(rt.alloc(), part(&newline, place, length), place);
+            assert!(rt; is_found && is_counted && is_begun, "{place} of {length}");
         }
     }
-    Ok(())
 }
 
 /// Texts with the starts of their lines.
@@ -97,62 +90,32 @@ const LINES: &[(&[u8], &[u32])] = &[
     (b"a\r\nb\n\n", &[0, 3, 5, 6]),
 ];
 
-/// Whether lines begin where they should in each of these texts.
-fn have_starts(alloc: Global, rows: &[(&[u8], &[u32])]) -> Result<bool, AllocError> {
-    for (text, wanted) in rows {
-        let starts = starts_of(alloc, text)?;
-        if starts.as_slice() != *wanted {
-            return Ok(false);
-        }
-    }
-    Ok(true)
-}
-
-/// Whether each place of a text of newlines begins a line, and so does its end.
-fn are_all_starts(alloc: Global, newlines: &[u8]) -> Result<bool, AllocError> {
-    let starts = starts_of(alloc, newlines)?;
-    for (at, start) in starts.iter().enumerate() {
-        if *start as usize != at {
-            return Ok(false);
-        }
-    }
-    Ok(starts.len() == newlines.len().saturating_add(1))
-}
-
 #[test]
-fn many_in_one_text(rt: HostRuntime) -> Result<(), Fail> {
-    assert!(rt; have_starts(rt.alloc(), LINES)?);
-    assert!(rt; are_all_starts(rt.alloc(), &[b'\n'; 130])?);
+fn many_in_one_text(rt: HostRuntime) {
+    for (text, starts) in LINES {
+        assert!(rt; are_starts(rt.alloc(), *text, *starts));
+    }
+    // Each place of a text of newlines begins a line, and so does its end.
+    let mut places = [0; 131];
+    for place in 0..131 {
+        places[place] = place as u32;
+    }
+    assert!(rt; are_starts(rt.alloc(), &[b'\n'; 130], &places));
     // More than a lane can count.
     assert!(rt; count_byte(&[7; 1000], 7) == 1000);
-    Ok(())
 }
 
 /// The bytes below 20 hex, the quote, the backslash and the last byte.
 const SOME: &[u8] =
     b"\x00\x01\x02\x03\x04\x05\x06\x07\x08\x09\x0a\x0b\x0c\x0d\x0e\x0f\x10\x11\x12\x13\x14\x15\x16\x17\x18\x19\x1a\x1b\x1c\x1d\x1e\x1f\"\\\xff";
 
-/// Each byte.
-fn all_bytes() -> [u8; 256] {
-    let mut all = [0; 256];
-    for byte in 0..256 {
-        all[byte] = byte as u8;
-    }
-    all
-}
-
-/// Whether a byte is in a set or not as it should be, and is found in a text of it, or not.
-fn is_sorted_out(set: &ByteSet, byte: u8, is_member: bool) -> bool {
-    let text = [byte; 20];
-    let first = if is_member { 1 } else { 20 };
-    set.has(byte) == is_member && first_special(&text, 1, set) == first
-}
-
-/// Whether the set of these bytes has them and no other.
+/// Whether the set of these bytes has them and no other, and finds a byte in a text of it or not.
 fn has_its_bytes(members: &[u8]) -> bool {
     let set = ByteSet::of(members);
     for byte in 0..=255 {
-        if !is_sorted_out(&set, byte, members.contains(&byte)) {
+        let is_member = members.contains(&byte);
+        let first = if is_member { 1 } else { 20 };
+        if set.has(byte) != is_member || first_special(&[byte; 20], 1, &set) != first {
             return false;
         }
     }
@@ -161,7 +124,11 @@ fn has_its_bytes(members: &[u8]) -> bool {
 
 #[test]
 fn sets_have_their_bytes(rt: HostRuntime) {
+    let mut all = [0; 256];
+    for byte in 0..256 {
+        all[byte] = byte as u8;
+    }
     assert!(rt; has_its_bytes(SOME));
     assert!(rt; has_its_bytes(b""));
-    assert!(rt; has_its_bytes(&all_bytes()));
+    assert!(rt; has_its_bytes(&all));
 }

@@ -2,8 +2,6 @@
 //! means.
 use crate::worlds::file_of;
 use rule_names::{Bind, Piece, RuleFile};
-use std::alloc::Global;
-use std::test::Fail;
 
 /// A file with a filter that gives a name, a block, a condition, a block over a type, a call of a function, a filter by
 /// keys and a reference.
@@ -65,38 +63,27 @@ const SITES: &[Site] = &[
     (62, ("step", 0), 201, 58),
 ];
 
-/// Whether a part is found at a site.
-fn is_found(file: &RuleFile, site: u32, part: (&str, usize)) -> bool {
-    match file.find(site) {
-        Some(piece) => told(&piece) == part,
-        None => false,
-    }
-}
-
-/// Whether a site has its part, its place and its scope.
-fn is_site(file: &RuleFile, (site, part, at, home): Site) -> bool {
-    if file.raw().places.as_slice().len() <= site as usize {
+/// Whether a site has its part, which is found there, its place and its scope.
+fn is_site(file: &RuleFile, (site, part, at, home): &Site) -> bool {
+    if file.raw().places.as_slice().len() <= *site as usize {
         return false;
     }
-    told(&file.piece(site)) == part && file.place(site) == at && file.home(site) == home
-}
-
-/// The first site that has another part, place or scope.
-fn first_wrong(file: &RuleFile) -> Option<u32> {
-    for site in SITES {
-        if !is_site(file, *site) || !is_found(file, site.0, site.1) {
-            return Some(site.0);
-        }
-    }
-    None
+    let Some(found) = file.find(*site) else {
+        return false;
+    };
+    told(&found) == *part
+        && told(&file.piece(*site)) == *part
+        && file.place(*site) == *at
+        && file.home(*site) == *home
 }
 
 #[test]
-fn each_site_has_its_part(rt: HostRuntime) -> Result<(), Fail> {
-    let file = file_of(rt.alloc(), RULES)?;
-    assert_eq!(rt; first_wrong(&file), None);
+fn each_site_has_its_part(rt: HostRuntime) {
+    let file = file_of(rt.alloc(), RULES).expect(&rt, "a file");
+    for site in SITES {
+        assert!(rt; is_site(&file, site), "{}", site.0);
+    }
     assert!(rt; file.raw().places.as_slice().len() == 63 && file.find(63).is_none());
-    Ok(())
 }
 
 /// A site, what the use of a variable there means, and the rule that is named there.
@@ -127,16 +114,11 @@ fn means(file: &RuleFile, uses: &[Use], order: &[u32]) -> bool {
     file.order() == order
 }
 
-/// Whether names mean this in the file of a text.
-fn says(alloc: Global, text: &'static str, uses: &[Use], order: &[u32]) -> Result<bool, Fail> {
-    let file = file_of(alloc, text)?;
-    Ok(means(&file, uses, order))
-}
-
 /// Rules come behind those that they name, and parts outside rules last.
 #[test]
-fn each_use_has_its_meaning(rt: HostRuntime) -> Result<(), Fail> {
-    assert!(rt; says(rt.alloc(), RULES, USES, &[57, 11])?);
-    assert!(rt; says(rt.alloc(), LOOSE, LOOSE_USES, &[11, 0])?);
-    Ok(())
+fn each_use_has_its_meaning(rt: HostRuntime) {
+    let file = file_of(rt.alloc(), RULES).expect(&rt, "a file");
+    assert!(rt; means(&file, USES, &[57, 11]));
+    let loose = file_of(rt.alloc(), LOOSE).expect(&rt, "a file");
+    assert!(rt; means(&loose, LOOSE_USES, &[11, 0]));
 }

@@ -52,18 +52,13 @@ fn letters(text: &[u8], at: usize) -> [u8; 5] {
     [line, blank, end, mark, column]
 }
 
-/// Whether the calls say so of these places.
-fn tell(text: &[u8], places: &[Place]) -> bool {
-    for (at, wanted, signs) in places {
-        if numbers(text, *at) != *wanted || letters(text, *at) != **signs {
-            return false;
-        }
-    }
-    true
-}
-
 #[test]
 fn calls_tell_of_places(rt: HostRuntime) {
-    assert!(rt; tell(TEXT, PLACES));
+    for (at, wanted, signs) in PLACES {
+        assert!(rt;
+            numbers(TEXT, *at) == *wanted && letters(TEXT, *at) == **signs,
+            "{at}"
+        );
+    }
     assert!(rt; lines::is_white(b'\t') && !lines::is_white(b'\n'));
 }

@@ -5,7 +5,6 @@ use crate::{block_scalars, quoted};
 use doc_values::{Kind, TEMPLATE_LIMIT};
 use std::alloc::Global;
 use std::borrow::CowStr;
-use std::test::Fail;
 use yaml_scalars::{Scalar, ScalarRefusal, Setting, read_scalar};
 
 /// In block at the top.
@@ -48,64 +47,31 @@ pub(crate) enum Wanted {
 /// A setting, a source, the place in it, and what is to stand there.
 pub(crate) type Row = (Setting, &'static str, usize, Wanted);
 
-/// The scalar at a place that surely begins a character of a text that is short enough.
-fn read<'s>(
-    alloc: Global,
-    text: &'s str,
-    at: usize,
-    setting: Setting,
-) -> Result<Scalar<'s>, ScalarRefusal> {
-    if text.len() <= at || TEMPLATE_LIMIT < text.len() || !text.is_char_boundary(at) {
-        return Err(ScalarRefusal::NoMemory);
-    }
-    if setting.parent < -1 || setting.parent > TEMPLATE_LIMIT as i32 {
-        return Err(ScalarRefusal::NoMemory);
-    }
-    read_scalar(alloc, text, at, setting)
-}
-
-fn is_lent(scalar: &Scalar<'_>) -> bool {
-    matches!(scalar.text, CowStr::Borrowed(_))
-}
-
-fn is_text(scalar: &Scalar<'_>, text: &str, end: usize) -> bool {
+/// Whether a scalar is what is to stand there.
+fn is_scalar(scalar: &Scalar<'_>, wanted: &Wanted) -> bool {
+    let is_lent = matches!(scalar.text, CowStr::Borrowed(_));
+    let (text, end) = match wanted {
+        Wanted::Lent(text, end) if is_lent => (*text, *end),
+        Wanted::Made(text, end) if !is_lent => (*text, *end),
+        Wanted::Text(text, end) => (*text, *end),
+        _ => return false,
+    };
     matches!(scalar.kind, Kind::Text) && scalar.text.as_str() == text && scalar.end == end
 }
 
-/// Whether a scalar is what is to stand there.
-fn is_scalar(scalar: &Scalar<'_>, wanted: &Wanted) -> bool {
-    match wanted {
-        Wanted::Lent(text, end) => is_lent(scalar) && is_text(scalar, text, *end),
-        Wanted::Made(text, end) => !is_lent(scalar) && is_text(scalar, text, *end),
-        Wanted::Text(text, end) => is_text(scalar, text, *end),
-        Wanted::Refused(_) => false,
-    }
-}
-
-/// Whether a refusal is what is to come.
-fn is_refusal(refusal: ScalarRefusal, wanted: &Wanted) -> bool {
-    match wanted {
-        Wanted::Refused(at) => refusal == ScalarRefusal::Syntax(*at),
-        _ => false,
-    }
-}
-
-/// Whether what is to stand in a source stands there.
+/// Whether what is to stand in a source stands there. A place has to begin a character of a text that is short enough.
 fn stands(alloc: Global, (setting, source, at, wanted): &Row) -> bool {
-    match read(alloc, *source, *at, *setting) {
+    if source.len() <= *at || TEMPLATE_LIMIT < source.len() || !source.is_char_boundary(*at) {
+        return false;
+    }
+    if setting.parent < -1 || setting.parent > TEMPLATE_LIMIT as i32 {
+        return false;
+    }
+    match read_scalar(alloc, *source, *at, *setting) {
         Ok(scalar) => is_scalar(&scalar, wanted),
-        Err(refusal) => is_refusal(refusal, wanted),
+        Err(ScalarRefusal::Syntax(found)) => matches!(wanted, Wanted::Refused(at) if *at == found),
+        Err(_) => false,
     }
-}
-
-/// The first source in which something else stands than is to stand there.
-fn first_wrong(alloc: Global, rows: &[Row]) -> Option<&'static str> {
-    for row in rows {
-        if !stands(alloc, row) {
-            return Some(row.1);
-        }
-    }
-    None
 }
 
 const TABLES: &[&[Row]] = &[
@@ -122,13 +88,12 @@ const TABLES: &[&[Row]] = &[
 ];
 
 #[test]
-fn each_stands_as_it_should(rt: HostRuntime) -> Result<(), Fail> {
+fn each_stands_as_it_should(rt: HostRuntime) {
     for rows in TABLES {
-        if let Some(source) = first_wrong(rt.alloc(), rows) {
-            return Err(Fail::from(source));
+        for row in *rows {
+            assert!(rt; stands(rt.alloc(), row), "{}", row.1);
         }
     }
-    Ok(())
 }
 
 /// Plain scalars on a line.

@@ -1,24 +1,21 @@
 //! Sinks in memory, and sinks over a writer of the system that takes little or fails.
 use guard_io::{MemSink, RealSink, Sink, SinkFault};
-use std::alloc::{AllocError, Global};
 use std::io::{self, Write};
-use std::test::Fail;
 
-/// A letter for how a piece was taken: `t`aken, `f`ailed, or no `m`emory.
-fn letter(put: Result<(), SinkFault>) -> u8 {
-    match put {
-        Ok(()) => b't',
-        Err(SinkFault::Failed) => b'f',
-        Err(SinkFault::Memory) => b'm',
-    }
-}
+/// Nothing, a piece, and again nothing.
+const PIECES: [&[u8]; 3] = [b"", b"abcd", b""];
 
-/// How nothing, `abcd` and again nothing are taken.
+/// A letter for how each piece is taken: `t`aken, `f`ailed, or no `m`emory.
 fn puts<S: Sink>(sink: &mut S) -> [u8; 3] {
-    let front = letter(sink.put(b""));
-    let piece = letter(sink.put(b"abcd"));
-    let end = letter(sink.put(b""));
-    [front, piece, end]
+    let mut letters = [0; 3];
+    for index in 0..3 {
+        letters[index] = match sink.put(PIECES[index]) {
+            Ok(()) => b't',
+            Err(SinkFault::Failed) => b'f',
+            Err(SinkFault::Memory) => b'm',
+        };
+    }
+    letters
 }
 
 const TAKEN: [u8; 3] = [b't', b't', b't'];
@@ -38,41 +35,29 @@ const ROOMS: &[Room] = &[
     (6, TAKEN, b"<abcd", 0),
 ];
 
-/// Whether a sink in memory takes what it has room for.
-fn takes_what_fits(alloc: Global, (room, wanted, held, faults): &Room) -> Result<bool, AllocError> {
-    let mut sink = MemSink {
-        bytes: Vec::from_slice(alloc, b"<")?,
-        room: *room,
-        faults: 0,
-    };
-    let taken = puts(&mut sink);
-    Ok(taken == *wanted && sink.bytes.as_slice() == *held && sink.faults == *faults)
-}
-
 #[test]
-fn takes_what_has_room(rt: HostRuntime) -> Result<(), Fail> {
-    for row in ROOMS {
-        if !takes_what_fits(rt.alloc(), row)? {
-            return Err(Fail::from(row.0));
-        }
+fn takes_what_has_room(rt: HostRuntime) {
+    for (room, wanted, held, faults) in ROOMS {
+        let mut sink = MemSink {
+            bytes: Vec::from_slice(rt.alloc(), b"<").expect(&rt, "a byte"),
+            room: *room,
+            faults: 0,
+        };
+        assert!(rt; puts(&mut sink) == *wanted, "{room}");
+        assert!(rt;
+            sink.bytes.as_slice() == *held && sink.faults == *faults,
+            "{room}"
+        );
     }
-    Ok(())
 }
 
-/// What a writer does when it holds all that it has room for.
-#[derive(Clone, Copy)]
-enum AtEnd {
-    TakesNone,
-    Fails,
-}
-
-/// Takes `step` bytes a write until it holds `room`. Its flush fails where it holds `stuck`.
+/// Takes `step` bytes a write until it holds `room`, and then none, or fails. Its flush fails where it holds `stuck`.
 #[derive(Drop)]
 struct Choppy {
     got: Vec<u8>,
     step: usize,
     room: usize,
-    at_end: AtEnd,
+    fails: bool,
     stuck: usize,
 }
 
@@ -83,7 +68,7 @@ fn broken() -> io::Error {
 impl Write for Choppy {
     fn write(&mut self, buf: &[u8]) -> io::Result<usize> {
         let left = self.room.saturating_sub(self.got.len());
-        if left == 0 && matches!(self.at_end, AtEnd::Fails) {
+        if left == 0 && self.fails {
             return Err(broken());
         }
         let taken = left.min(self.step).min(buf.len());
@@ -99,44 +84,36 @@ impl Write for Choppy {
     }
 }
 
-/// The steps of a writer, its room, what it does then and where its flush fails; and how pieces are taken, what the writer
+/// The steps of a writer, its room, whether it fails then and where its flush fails; and how pieces are taken, what the writer
 /// got, and how many faults are counted.
-type Case = ((usize, usize, AtEnd, usize), ([u8; 3], &'static [u8], u64));
+type Case = ((usize, usize, bool, usize), ([u8; 3], &'static [u8], u64));
 
 /// A byte a write; several; a writer that takes nothing more; one that fails; a flush that fails after the whole piece.
 const WRITERS: &[Case] = &[
-    ((1, 9, AtEnd::TakesNone, 9), (TAKEN, b"abcd", 0)),
-    ((3, 9, AtEnd::TakesNone, 9), (TAKEN, b"abcd", 0)),
-    ((3, 0, AtEnd::TakesNone, 9), (FAILED, b"", 1)),
-    ((1, 2, AtEnd::TakesNone, 9), (FAILED, b"ab", 1)),
-    ((3, 0, AtEnd::Fails, 9), (FAILED, b"", 1)),
-    ((1, 2, AtEnd::Fails, 9), (FAILED, b"ab", 1)),
-    ((3, 9, AtEnd::TakesNone, 4), (FAILED, b"abcd", 1)),
+    ((1, 9, false, 9), (TAKEN, b"abcd", 0)),
+    ((3, 9, false, 9), (TAKEN, b"abcd", 0)),
+    ((3, 0, false, 9), (FAILED, b"", 1)),
+    ((1, 2, false, 9), (FAILED, b"ab", 1)),
+    ((3, 0, true, 9), (FAILED, b"", 1)),
+    ((1, 2, true, 9), (FAILED, b"ab", 1)),
+    ((3, 9, false, 4), (FAILED, b"abcd", 1)),
 ];
 
-/// Whether a sink over a writer takes what the writer takes.
-fn takes_what_is_written(
-    alloc: Global,
-    ((step, room, at_end, stuck), (wanted, text, faults)): &Case,
-) -> bool {
-    let writer = Choppy {
-        got: Vec::new(alloc),
-        step: *step,
-        room: *room,
-        at_end: *at_end,
-        stuck: *stuck,
-    };
-    let mut sink = RealSink { writer, faults: 0 };
-    let taken = puts(&mut sink);
-    taken == *wanted && sink.writer.got.as_slice() == *text && sink.faults == *faults
-}
-
 #[test]
-fn writes_until_the_writer_fails(rt: HostRuntime) -> Result<(), Fail> {
-    for (row, case) in WRITERS.iter().enumerate() {
-        if !takes_what_is_written(rt.alloc(), case) {
-            return Err(Fail::from(row));
-        }
+fn writes_until_the_writer_fails(rt: HostRuntime) {
+    for (row, ((step, room, fails, stuck), (wanted, text, faults))) in WRITERS.iter().enumerate() {
+        let writer = Choppy {
+            got: Vec::new(rt.alloc()),
+            step: *step,
+            room: *room,
+            fails: *fails,
+            stuck: *stuck,
+        };
+        let mut sink = RealSink { writer, faults: 0 };
+        assert!(rt; puts(&mut sink) == *wanted, "{row}");
+        assert!(rt;
+            sink.writer.got.as_slice() == *text && sink.faults == *faults,
+            "{row}"
+        );
     }
-    Ok(())
 }

@@ -3,7 +3,6 @@ use doc_values::RULES_LIMIT;
 use guard_lexer::tokens;
 use guard_parser::parse;
 use std::alloc::Global;
-use std::test::Fail;
 
 /// Texts with the places of their sites, in the order of the sites.
 const SITES: &[(&str, &[u32])] = &[
@@ -61,11 +60,8 @@ fn has_sites(alloc: Global, text: &str, places: &[u32]) -> bool {
 }
 
 #[test]
-fn sites_have_their_places(rt: HostRuntime) -> Result<(), Fail> {
+fn sites_have_their_places(rt: HostRuntime) {
     for (text, places) in SITES {
-        if !has_sites(rt.alloc(), *text, *places) {
-            return Err(Fail::from(*text));
-        }
+        assert!(rt; has_sites(rt.alloc(), *text, *places), "{text}");
     }
-    Ok(())
 }

@@ -2,11 +2,9 @@
 use doc_values::{Cursor, Doc, Kind, TEMPLATE_LIMIT};
 use json_reader::{place_within, read_json};
 use std::alloc::Global;
-use std::test::Fail;
 use yaml_scalars::one_kind;
 
 /// A value: what it is, its text, where it stands in the text and in the tree, and what stands in it.
-#[derive(Clone, Copy)]
 struct Node {
     kind: &'static str,
     text: &'static str,
@@ -76,54 +74,40 @@ const NODES: &[Node] = &[
 ];
 
 /// The tree of a text, which outlives it.
-fn tree_of(alloc: Global, text: &str) -> Result<Doc<'static>, Fail> {
+fn tree_of(alloc: Global, text: &str) -> Option<Doc<'static>> {
     if TEMPLATE_LIMIT < text.len() {
-        return Err(Fail::from("too long"));
+        return None;
     }
     match read_json(alloc, text) {
-        Ok(tree) => Ok(tree.detach(alloc)?),
-        Err(_) => Err(Fail::from("refused")),
-    }
-}
-
-/// What a value is.
-fn word_of(value: &Cursor<'_, '_>) -> &'static str {
-    match value.kind() {
-        Kind::Map => "map",
-        Kind::Whole(1) => "1",
-        Kind::List => "list",
-        Kind::Truth(true) => "true",
-        Kind::Text => "text",
-        _ => "another",
-    }
-}
-
-/// The text of a value, if it is one.
-fn text_of<'t>(value: &Cursor<'t, '_>) -> &'t str {
-    match value.kind() {
-        Kind::Text => value.text(),
-        _ => "",
-    }
-}
-
-fn number_of(value: Option<Cursor<'_, '_>>) -> Option<u32> {
-    match value {
-        Some(value) => Some(value.id),
-        None => None,
+        Ok(tree) => tree.detach(alloc).ok(),
+        Err(_) => None,
     }
 }
 
 /// Whether a value has this kind and text, and this key if it has one.
 fn is_value(value: &Cursor<'_, '_>, node: &Node) -> bool {
-    word_of(value) == node.kind
-        && text_of(value) == node.text
-        && value.key().unwrap_or("") == node.key
-        && value.key().is_some() != node.key.is_empty()
+    let (kind, text) = match value.kind() {
+        Kind::Map => ("map", ""),
+        Kind::Whole(1) => ("1", ""),
+        Kind::List => ("list", ""),
+        Kind::Truth(true) => ("true", ""),
+        Kind::Text => ("text", value.text()),
+        _ => return false,
+    };
+    let key = value.key();
+    kind == node.kind
+        && text == node.text
+        && key.unwrap_or("") == node.key
+        && key.is_some() != node.key.is_empty()
 }
 
 /// Whether a value stands here.
 fn is_placed(value: &Cursor<'_, '_>, node: &Node) -> bool {
-    value.at() == node.at && value.index() == node.index && number_of(value.parent()) == node.parent
+    let parent = match value.parent() {
+        Some(parent) => Some(parent.id),
+        None => None,
+    };
+    value.at() == node.at && value.index() == node.index && parent == node.parent
 }
 
 /// Whether these stand in a value, in order and by a key.
@@ -133,26 +117,26 @@ fn has_children(value: &Cursor<'_, '_>, node: &Node) -> bool {
             return false;
         }
     }
-    value.len() == node.children.len() && number_of(value.get("b")) == node.b
-}
-
-/// Whether the value of a number is as it is to be.
-fn is_node(tree: &Doc<'_>, id: usize, node: &Node) -> bool {
-    if tree.len() as usize <= id {
-        return false;
-    }
-    let value = tree.cursor(id as u32);
-    is_value(&value, node) && is_placed(&value, node) && has_children(&value, node)
+    let b = match value.get("b") {
+        Some(b) => Some(b.id),
+        None => None,
+    };
+    value.len() == node.children.len() && b == node.b
 }
 
 #[test]
-fn cursors_tell_a_tree(rt: HostRuntime) -> Result<(), Fail> {
-    let tree = tree_of(rt.alloc(), TEXT)?;
-    for (id, node) in NODES.iter().enumerate() {
-        assert!(rt; is_node(&tree, id, node), "{id}");
-    }
+fn cursors_tell_a_tree(rt: HostRuntime) {
+    let tree = tree_of(rt.alloc(), TEXT).expect(&rt, "a tree");
     assert!(rt; tree.len() == 5);
-    Ok(())
+    for (id, node) in NODES.iter().enumerate() {
+        assert!(rt; id < tree.len() as usize);
+        let value = tree.cursor(id as u32);
+        assert!(rt; is_value(&value, node), "{id}");
+        assert!(rt;
+            is_placed(&value, node) && has_children(&value, node),
+            "{id}"
+        );
+    }
 }
 
 /// The calls do nothing.

@@ -5,11 +5,6 @@ use Rattle.scope_frames.specs.code.Frames.{AreEntered}
 use Rattle.scope_frames.specs.declared.frame.Frame.{Frame}
 use Rattle.library_tests.proofs.cells.fill_at.Goals as goal
 
-pub returns-in_err-fill : goal.returns-in_err-fill
-returns-in_err-fill c =
-    subst (λ (f : RuleFile). AreEntered (seen f) c.fill.new.self.entered.keys) (sym c.fill.ensures.file)
-    (subst (λ (fs : List Frame). AreEntered (seen c.args.frames.now.file.now) fs) (sym c.fill.ensures.frames) c.requires)
-
 pub returns : goal.returns
 returns c =
     subst (λ (f : RuleFile). AreEntered (seen f) c.fill.new.self.entered.keys) (sym c.fill.ensures.file)
