@@ -17,11 +17,11 @@ ghost use Rattle.value_compare.specs.code.Stores.{see_store};
 ghost use Rattle.rule_names.specs.ReferenceGraph.{part_site};
 ghost use Rattle.rule_names.specs.Pieces.{piece_at};
 ghost use Rattle.evidence_rules.specs.CitedLines.{IsLine, called_body};
-ghost use Rattle.clause_eval.specs.code.Adding.{Added, Adds};
-ghost use Rattle.clause_eval.specs.code.Answers.{Answers, AnswersVerdict, AreJudged, GivesStepAt, HasRows, HasSides, IsCapturing, IsKinds, IsReference, IsSomeTest, IsStepWith, IsTestVerdict, above, both_cites};
+ghost use Rattle.engine_states.specs.code.Adding.{Added, Adds};
+ghost use Rattle.engine_states.specs.code.Answers.{Answers, AnswersVerdict, AreJudged, GivesStepAt, HasRows, HasSides, IsCapturing, IsKinds, IsReference, IsSomeTest, IsStepWith, IsTestVerdict, above, both_cites};
+ghost use Rattle.engine_states.specs.code.Kinds.{own_kind};
+ghost use Rattle.engine_states.specs.code.States.{IsWhole};
 ghost use Rattle.clause_eval.specs.code.Engines.{see_engine};
-ghost use Rattle.clause_eval.specs.code.Kinds.{own_kind};
-ghost use Rattle.clause_eval.specs.code.States.{IsWhole};
 
 use crate::engine::Engine;
 use crate::place::Place;

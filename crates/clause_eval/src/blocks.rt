@@ -6,9 +6,9 @@ ghost use Rattle.guard_syntax.specs.Syntax.{OptConds};
 ghost use Rattle.guard_syntax.specs.code.Seen.{see_body, see_conds, see_opt_conds, see_opt_expr, see_part, see_query};
 ghost use Rattle.rule_names.specs.ReferenceGraph.{part_site};
 ghost use Rattle.rule_meaning.specs.StoreModel.{is_known};
-ghost use Rattle.clause_eval.specs.code.Answers.{AnswersBodies, AnswersBody, AnswersTyped, AnswersVerdict, IsBlock, IsBodyIn, IsBodyOfRows, IsGuarded, IsKinds, IsRuleCall, IsTest};
+ghost use Rattle.engine_states.specs.code.Answers.{AnswersBodies, AnswersBody, AnswersTyped, AnswersVerdict, IsBlock, IsBodyIn, IsBodyOfRows, IsGuarded, IsKinds, IsRuleCall, IsTest};
+ghost use Rattle.engine_states.specs.code.States.{IsWhole};
 ghost use Rattle.clause_eval.specs.code.Engines.{see_engine};
-ghost use Rattle.clause_eval.specs.code.States.{IsWhole};
 
 use crate::adds::{behind, cited};
 use crate::engine::Engine;

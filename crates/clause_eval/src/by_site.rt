@@ -5,11 +5,11 @@ ghost use Rattle.evidence_lines.specs.declared.line.Outcome.TheVariants as says;
 ghost use Rattle.guard_syntax.specs.declared.row.Verdict.{Verdict};
 ghost use Rattle.rule_names.specs.Pieces.{piece_at};
 ghost use Rattle.rule_names.specs.code.Files.{file_of};
-ghost use Rattle.clause_eval.specs.code.Adding.{Added, Adds};
-ghost use Rattle.clause_eval.specs.code.Answers.{AnswersPiece, AnswersVerdict, IsConjunctionAt, IsLetValue};
+ghost use Rattle.engine_states.specs.code.Adding.{Added, Adds};
+ghost use Rattle.engine_states.specs.code.Answers.{AnswersPiece, AnswersVerdict, IsConjunctionAt, IsLetValue};
+ghost use Rattle.engine_states.specs.code.Ruling.{IsRuledBy, has_conditions};
+ghost use Rattle.engine_states.specs.code.States.{IsWhole};
 ghost use Rattle.clause_eval.specs.code.Engines.{see_engine};
-ghost use Rattle.clause_eval.specs.code.Ruling.{IsRuledBy, has_conditions};
-ghost use Rattle.clause_eval.specs.code.States.{IsWhole};
 
 use crate::engine::Engine;
 use crate::said::Said;

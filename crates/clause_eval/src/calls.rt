@@ -10,10 +10,10 @@ ghost use Rattle.rule_meaning.specs.Seeing.{grown, rows_kept, trees_kept};
 ghost use Rattle.rule_meaning.specs.StoreModel.{made_at};
 ghost use Rattle.rule_meaning.specs.StoreModel as known;
 ghost use Rattle.value_compare.specs.code.Stores.{see_store};
-ghost use Rattle.clause_eval.specs.code.Adding.{Added};
-ghost use Rattle.clause_eval.specs.code.Answers.{AreGiven, IsAnswerOf, SayRowsOf};
+ghost use Rattle.engine_states.specs.code.Adding.{Added};
+ghost use Rattle.engine_states.specs.code.Answers.{AreGiven, IsAnswerOf, SayRowsOf};
+ghost use Rattle.engine_states.specs.code.States.{IsWhole};
 ghost use Rattle.clause_eval.specs.code.Engines.{see_engine};
-ghost use Rattle.clause_eval.specs.code.States.{IsWhole};
 
 use crate::engine::Engine;
 use crate::place::Place;

@@ -4,7 +4,7 @@ ghost use Rattle.evidence_lines.specs.declared.version.Version.TheVariants.{Two}
 ghost use Rattle.rule_names.specs.code.Files.{file_of};
 ghost use Rattle.value_compare.specs.code.Books.{IsBookOf};
 ghost use Rattle.value_compare.specs.code.Stores.{see_store};
-ghost use Rattle.clause_eval.specs.code.States.{StillFollows};
+ghost use Rattle.engine_states.specs.code.States.{StillFollows};
 
 use crate::place::Place;
 use engine_parts::frame_lines::FrameLines;

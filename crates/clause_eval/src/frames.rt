@@ -2,9 +2,9 @@
 ghost use Rattle.std.specs.Prelude.{◌≡◌, ◌<◌, IfOk, IsErr, None, OnErr, OnOk, Some, false, length, option_map, slice_get, true};
 ghost use Rattle.rule_meaning.specs.Roots.{root_ref};
 ghost use Rattle.scope_frames.specs.code.Frames.{MayEnter};
+ghost use Rattle.engine_states.specs.code.Entered.{Enters, IsFramed, IsLineFor, MayHaveValue};
+ghost use Rattle.engine_states.specs.code.States.{IsWhole};
 ghost use Rattle.clause_eval.specs.code.Engines.{see_engine};
-ghost use Rattle.clause_eval.specs.code.Entered.{Enters, IsFramed, IsLineFor, MayHaveValue};
-ghost use Rattle.clause_eval.specs.code.States.{IsWhole};
 
 use crate::engine::Engine;
 use evidence_lines::{Cites, Line, LineKind, Outcome};

@@ -10,10 +10,10 @@ ghost use Rattle.rule_names.specs.Pieces.{piece_at};
 ghost use Rattle.value_compare.specs.code.Stores.{see_store};
 ghost use Rattle.evidence_rules.specs.CitedLines.{IsLine};
 ghost use Rattle.evidence_rules.specs.Follows.{Follows};
-ghost use Rattle.clause_eval.specs.code.Adding.{Added, Adds, line_for};
+ghost use Rattle.engine_states.specs.code.Adding.{Added, Adds, line_for};
+ghost use Rattle.engine_states.specs.code.Kinds.{kind_beside, own_kind};
+ghost use Rattle.engine_states.specs.code.States.{FollowUp, IsWhole};
 ghost use Rattle.clause_eval.specs.code.Engines.{see_engine};
-ghost use Rattle.clause_eval.specs.code.Kinds.{kind_beside, own_kind};
-ghost use Rattle.clause_eval.specs.code.States.{FollowUp, IsWhole};
 
 use crate::engine::Engine;
 use crate::place::Place;

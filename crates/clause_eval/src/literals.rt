@@ -6,9 +6,9 @@ ghost use Rattle.guard_syntax.specs.Syntax as syntax;
 ghost use Rattle.rule_names.specs.Pieces.{OfExpr};
 ghost use Rattle.rule_meaning.specs.Roots.{literal_ref};
 ghost use Rattle.rule_meaning.specs.StoreModel.{literal_at};
-ghost use Rattle.clause_eval.specs.code.Answers.{AnswersRows, StandsIn};
+ghost use Rattle.engine_states.specs.code.Answers.{AnswersRows, StandsIn};
+ghost use Rattle.engine_states.specs.code.States.{IsWhole};
 ghost use Rattle.clause_eval.specs.code.Engines.{see_engine};
-ghost use Rattle.clause_eval.specs.code.States.{IsWhole};
 
 use crate::engine::Engine;
 use crate::place::Place;

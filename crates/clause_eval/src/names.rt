@@ -3,9 +3,9 @@ ghost use Rattle.std.specs.Prelude.{◌≡◌, ℕ, IfOk};
 ghost use Rattle.guard_syntax.specs.Syntax as syntax;
 ghost use Rattle.guard_syntax.specs.code.Seen.{see_expr};
 ghost use Rattle.rule_names.specs.code.Files.{file_of};
-ghost use Rattle.clause_eval.specs.code.Answers.{AnswersArgument, AnswersCapture, AnswersPiece, AnswersVariable, IsArgumentOf, IsCapturing, IsLetValue, IsParameter, IsUse, argument_bound};
+ghost use Rattle.engine_states.specs.code.Answers.{AnswersArgument, AnswersCapture, AnswersPiece, AnswersVariable, IsArgumentOf, IsCapturing, IsLetValue, IsParameter, IsUse, argument_bound};
+ghost use Rattle.engine_states.specs.code.States.{IsWhole};
 ghost use Rattle.clause_eval.specs.code.Engines.{see_engine};
-ghost use Rattle.clause_eval.specs.code.States.{IsWhole};
 
 use crate::engine::Engine;
 use guard_syntax::{Expr, Part};

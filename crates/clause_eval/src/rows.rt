@@ -7,11 +7,11 @@ ghost use Rattle.guard_syntax.specs.Syntax as syntax;
 ghost use Rattle.guard_syntax.specs.declared.row.Row.{Row};
 ghost use Rattle.guard_syntax.specs.declared.syntax.Query.{out-Query};
 ghost use Rattle.rule_names.specs.Pieces.{OfExpr};
-ghost use Rattle.clause_eval.specs.code.Adding.{Added};
-ghost use Rattle.clause_eval.specs.code.Answers.{AnswersExpr, AnswersQuery, AnswersRows, AnswersStepAt, GivesAsked, GivesStepBefore, IsCall, LacksStep, StandsIn, StandsUpTo};
+ghost use Rattle.engine_states.specs.code.Adding.{Added};
+ghost use Rattle.engine_states.specs.code.Answers.{AnswersExpr, AnswersQuery, AnswersRows, AnswersStepAt, GivesAsked, GivesStepBefore, IsCall, LacksStep, StandsIn, StandsUpTo};
+ghost use Rattle.engine_states.specs.code.Inside.{expr_sited, query_sited};
+ghost use Rattle.engine_states.specs.code.States.{IsWhole};
 ghost use Rattle.clause_eval.specs.code.Engines.{see_engine};
-ghost use Rattle.clause_eval.specs.code.Inside.{expr_sited, query_sited};
-ghost use Rattle.clause_eval.specs.code.States.{IsWhole};
 
 use crate::engine::Engine;
 use crate::place::Place;

@@ -2,9 +2,9 @@
 //! file.
 ghost use Rattle.std.specs.Prelude.{◌≡◌, [], IfOk, IsErr, None, OnErr, OnOk, false, true};
 ghost use Rattle.guard_syntax.specs.code.Seen.{see_rule};
+ghost use Rattle.engine_states.specs.code.Ruling.{IsFileFrame, IsReady, Judges, MayJudge, MayJudgeLoose, Rests};
+ghost use Rattle.engine_states.specs.code.States.{IsWhole};
 ghost use Rattle.clause_eval.specs.code.Engines.{see_engine};
-ghost use Rattle.clause_eval.specs.code.Ruling.{IsFileFrame, IsReady, Judges, MayJudge, MayJudgeLoose, Rests};
-ghost use Rattle.clause_eval.specs.code.States.{IsWhole};
 
 use crate::engine::Engine;
 use crate::said::Cited;

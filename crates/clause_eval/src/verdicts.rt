@@ -5,11 +5,11 @@ ghost use Rattle.guard_syntax.specs.code.Seen.{disj_list, see_conds, see_disj, s
 ghost use Rattle.rule_names.specs.Pieces.{OfPart};
 ghost use Rattle.rule_names.specs.ReferenceGraph.{disj_site, part_site};
 ghost use Rattle.evidence_rules.specs.Follows.{conds_site};
-ghost use Rattle.clause_eval.specs.code.Answers.{AnswersDisjs, AnswersParts, AnswersVerdict, IsConjunction, StandsIn, parts_of};
+ghost use Rattle.engine_states.specs.code.Answers.{AnswersDisjs, AnswersParts, AnswersVerdict, IsConjunction, StandsIn, parts_of};
+ghost use Rattle.engine_states.specs.code.Inside.{conds_sited, disj_sited};
+ghost use Rattle.engine_states.specs.code.Kinds.{kind_of_part};
+ghost use Rattle.engine_states.specs.code.States.{IsWhole};
 ghost use Rattle.clause_eval.specs.code.Engines.{see_engine};
-ghost use Rattle.clause_eval.specs.code.Inside.{conds_sited, disj_sited};
-ghost use Rattle.clause_eval.specs.code.Kinds.{kind_of_part};
-ghost use Rattle.clause_eval.specs.code.States.{IsWhole};
 
 use crate::blocks::BlockHead;
 use crate::engine::Engine;

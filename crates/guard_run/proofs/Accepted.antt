@@ -10,7 +10,7 @@ use Rattle.rule_meaning.specs.Locations.{Answers}
 use Rattle.rule_meaning.specs.Seeing.{world_of}
 use Rattle.rule_meaning.specs.StoreModel.{StoreModel}
 use Rattle.evidence_rules.specs.Follows.{Accepts}
-use Rattle.clause_eval.specs.code.States.{IsWhole, State}
+use Rattle.engine_states.specs.code.States.{IsWhole, State}
 use Rattle.evidence_report.specs.code.RuleEntries.{IsAccepted}
 use Rattle.guard_ends.specs.Reported.{world_over}
 

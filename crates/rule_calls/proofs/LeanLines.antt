@@ -12,10 +12,10 @@ use Rattle.evidence_rules.specs.CitedLines.{IsLine}
 use Rattle.evidence_rules.specs.Lean.{AreAlike, IsLean}
 use Rattle.scope_frames.specs.code.Frames.{MayEnter}
 use Rattle.scope_frames.specs.declared.frame.Frame.{Frame}
-use Rattle.clause_eval.specs.code.Kinds.{is_frame, kind_beside, own_kind}
-use Rattle.clause_eval.specs.code.Lines.{HasLine, SaysFrame}
-use Rattle.clause_eval.specs.code.Ruling.{Rests}
-use Rattle.clause_eval.specs.code.States.{IsWhole, State}
+use Rattle.engine_states.specs.code.Kinds.{is_frame, kind_beside, own_kind}
+use Rattle.engine_states.specs.code.Lines.{HasLine, SaysFrame}
+use Rattle.engine_states.specs.code.Ruling.{Rests}
+use Rattle.engine_states.specs.code.States.{IsWhole, State}
 use Rattle.rule_calls.proofs.LinesPlaced.{IsSited, line-placed}
 
 got : {X : Type 0} (xs : List X) (n : ℕ) → n < length xs → (x : X) × (slice_get xs n ≡ Some x)

@@ -21,8 +21,8 @@ use Rattle.rule_meaning.specs.StoreModel.{Made, StoreModel}
 use Rattle.evidence_rules.specs.Follows.{Follows, FollowsAtExpr, FollowsAtPart, FollowsAtStep, FollowsIn, FollowsRows, FollowsVerdict, IsFrameOf, nothing_made}
 use Rattle.evidence_rules.specs.code.Judgement.{FollowTo}
 use Rattle.evidence_rules.proofs.LinesBehind.{behind-first}
-use Rattle.clause_eval.specs.code.Kinds.{kind_beside, kind_of_expr, kind_of_part, kind_of_step, own_kind}
-use Rattle.clause_eval.specs.code.States.{IsWhole, State}
+use Rattle.engine_states.specs.code.Kinds.{kind_beside, kind_of_expr, kind_of_part, kind_of_step, own_kind}
+use Rattle.engine_states.specs.code.States.{IsWhole, State}
 use Rattle.evidence_lookups.proofs.SitesWithin.{site-within}
 
 -- a kind of line that the part of a site has

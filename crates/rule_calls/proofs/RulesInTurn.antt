@@ -18,12 +18,12 @@ use Rattle.rule_names.specs.declared.file.RuleFile.{RuleFile}
 use Rattle.rule_meaning.specs.StoreModel.{StoreModel}
 use Rattle.evidence_rules.specs.Follows.{Accepts, IsLooseJudged, nothing_made}
 use Rattle.evidence_rules.specs.code.Judgement.{FollowTo}
-use Rattle.clause_eval.specs.code.Ruling.{Judges, MayJudge, MayJudgeLoose, Rests}
-use Rattle.clause_eval.specs.code.States.{Grows, State}
-use Rattle.clause_eval.proofs.Evaluating.{same-file}
-use Rattle.clause_eval.proofs.RulesJudged.{rule-stays}
-use Rattle.clause_eval.proofs.SaidStays.{FollowTo-all}
-use Rattle.clause_eval.proofs.Shaped.{rule-verdict}
+use Rattle.engine_states.specs.code.Ruling.{Judges, MayJudge, MayJudgeLoose, Rests}
+use Rattle.engine_states.specs.code.States.{Grows, State}
+use Rattle.engine_states.proofs.Evaluating.{same-file}
+use Rattle.engine_states.proofs.RulesJudged.{rule-stays}
+use Rattle.engine_states.proofs.SaidStays.{FollowTo-all}
+use Rattle.engine_states.proofs.Shaped.{rule-verdict}
 use Rattle.rule_calls.specs.code.Ranks.{AreRanked, IsRanked, rule_of}
 use Rattle.rule_calls.specs.code.Turns.{AreAllJudged, AreJudged, HasLine, IsJudgedWhole}
 use Rattle.rule_calls.specs.declared.ranked.Ranked.{Ranked}

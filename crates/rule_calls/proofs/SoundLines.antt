@@ -18,11 +18,11 @@ use Rattle.evidence_rules.specs.CitedLines.{IsLine}
 use Rattle.evidence_rules.proofs.LinesBehind.{behind-first}
 use Rattle.evidence_lookups.specs.code.JudgedSites.{AreJudged, AreNoted, IsJudgedAs, IsUnjudged}
 use Rattle.evidence_lookups.specs.code.Said.{AreMadeWithin, AreSound, IsSound, is_known_outcome}
-use Rattle.clause_eval.specs.code.Kinds.{is_frame}
-use Rattle.clause_eval.specs.code.States.{IsWhole, State}
-use Rattle.clause_eval.specs.code.States as states
-use Rattle.clause_eval.proofs.MadeTrees.{called, literal-says}
-use Rattle.clause_eval.proofs.Shaped.{says-rows}
+use Rattle.engine_states.specs.code.Kinds.{is_frame}
+use Rattle.engine_states.specs.code.States.{IsWhole, State}
+use Rattle.engine_states.specs.code.States as states
+use Rattle.engine_states.proofs.MadeTrees.{called, literal-says}
+use Rattle.engine_states.proofs.Shaped.{says-rows}
 
 -- ---- what lines say
 

@@ -12,8 +12,8 @@ use Rattle.guard_syntax.specs.Syntax.{Disj, Disjs, Rule, more_disjs, no_disjs}
 use Rattle.guard_syntax.specs.declared.row.Verdict.{Verdict}
 use Rattle.evidence_rules.specs.CitedLines.{IsLine}
 use Rattle.evidence_rules.specs.Follows.{IsLooseJudged}
-use Rattle.clause_eval.specs.code.States.{IsWhole, State}
-use Rattle.clause_eval.proofs.Shaped.{rule-verdict}
+use Rattle.engine_states.specs.code.States.{IsWhole, State}
+use Rattle.engine_states.proofs.Shaped.{rule-verdict}
 use Rattle.rule_calls.specs.code.Reported.{AreVerdicts, SaysRule, if_plain, loose_site, reported_sites, rule_sites, site_of_rule}
 use Rattle.rule_calls.specs.code.Turns.{AreAllJudged, IsJudgedWhole}
 

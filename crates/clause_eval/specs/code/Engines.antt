@@ -4,7 +4,7 @@ use Rattle.value_compare.specs.code.Stores.{see_store}
 use Rattle.clause_eval.specs.code.Beside.{beside_in}
 use Rattle.engine_parts.specs.code.FoundLines.{found_in}
 use Rattle.engine_parts.specs.code.FrameLines.{line_in}
-use Rattle.clause_eval.specs.code.States.{State}
+use Rattle.engine_states.specs.code.States.{State}
 use Rattle.clause_eval.specs.declared.engine.Engine.{Engine}
 use Rattle.engine_parts.specs.declared.frame_lines.FrameLines.{FrameLines}
 use Rattle.engine_parts.specs.declared.site_lines.SiteLines.{SiteLines}

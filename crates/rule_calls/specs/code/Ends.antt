@@ -3,7 +3,7 @@ use Rattle.std.specs.Prelude.{ℕ, List, Option}
 use Rattle.evidence_lines.specs.declared.line.Line.{Line}
 use Rattle.rule_meaning.specs.StoreModel.{StoreModel}
 use Rattle.scope_frames.specs.declared.frame.Frame.{Frame}
-use Rattle.clause_eval.specs.code.States.{IsWhole, State}
+use Rattle.engine_states.specs.code.States.{IsWhole, State}
 
 -- the frames of an engine, and the tables by which it finds lines
 pub record Tables : Type 0 where

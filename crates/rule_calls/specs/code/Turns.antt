@@ -2,8 +2,8 @@
 use Rattle.std.specs.Prelude.{ℕ, ◌≡◌, List, [], All, Contains, Some}
 use Rattle.guard_syntax.specs.Syntax.{Rule}
 use Rattle.evidence_rules.specs.Follows.{IsLooseJudged}
-use Rattle.clause_eval.specs.code.Ruling.{Rests}
-use Rattle.clause_eval.specs.code.States.{State}
+use Rattle.engine_states.specs.code.Ruling.{Rests}
+use Rattle.engine_states.specs.code.States.{State}
 use Rattle.rule_calls.specs.code.Ranks.{rule_of}
 use Rattle.rule_calls.specs.declared.ranked.Ranked.{Ranked}
 

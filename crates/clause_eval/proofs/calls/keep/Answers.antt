@@ -5,7 +5,7 @@ use Rattle.std.specs.Vec.Iter.{into_iter_items}
 use Rattle.guard_builtins.specs.declared.made.Made.{Made}
 use Rattle.guard_syntax.specs.declared.row.Ref.{Ref}
 use Rattle.guard_syntax.specs.declared.row.Row.TheVariants.{Found}
-use Rattle.clause_eval.proofs.KeptTrees.{added-grows, kept-grows, kept-none, kept-row, kept-tree, place-free, plain-next, plain-tree, rows-whole, same-grows, store-whole, taken-front, whole-taken}
+use Rattle.engine_states.proofs.KeptTrees.{added-grows, kept-grows, kept-none, kept-row, kept-tree, place-free, plain-next, plain-tree, rows-whole, same-grows, store-whole, taken-front, whole-taken}
 use Rattle.clause_eval.proofs.calls.keep.Goals as goal
 
 pub loop-made-init : goal.loop-made-init

@@ -1,4 +1,4 @@
-use Rattle.clause_eval.proofs.KeptTrees.{KeptSoFar}
+use Rattle.engine_states.proofs.KeptTrees.{KeptSoFar}
 use Rattle.clause_eval.proofs.calls.keep.Given as goal
 
 abbrev pub invariant-loop-made : goal.invariant-loop-made

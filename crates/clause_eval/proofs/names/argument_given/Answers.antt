@@ -4,9 +4,9 @@ use Rattle.guard_syntax.specs.code.Seen.{see_part}
 use Rattle.rule_names.specs.code.Files.{file_of}
 use Rattle.rule_names.proofs.Shapes.{block-seen, kinds-seen, when-seen}
 use Rattle.evidence_rules.specs.CitedLines.{args_of_part}
-use Rattle.clause_eval.proofs.Insides.{refer-seen, test-seen}
-use Rattle.clause_eval.proofs.ParametersRead.{param-caller, param-expr, param-find, param-parent, param-part, param-piece, param-within}
-use Rattle.clause_eval.proofs.PiecesLeft.{part-only}
+use Rattle.engine_states.proofs.Insides.{refer-seen, test-seen}
+use Rattle.engine_states.proofs.ParametersRead.{param-caller, param-expr, param-find, param-parent, param-part, param-piece, param-within}
+use Rattle.engine_states.proofs.PiecesLeft.{part-only}
 use Rattle.clause_eval.proofs.names.argument_given.Goals as goal
 
 pub bounds-entered-frame : goal.bounds-entered-frame

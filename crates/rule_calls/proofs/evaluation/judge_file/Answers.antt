@@ -2,9 +2,9 @@ use Rattle.std.proofs.Common.{sym, subst, List}
 use Rattle.std.proofs.lemmas.Result.{on_ok_weaker}
 use Rattle.rule_names.specs.code.Files.{file_of}
 use Rattle.rule_names.specs.declared.file.RuleFile.{RuleFile}
+use Rattle.engine_states.specs.code.States.{Grows}
+use Rattle.engine_states.proofs.Evaluating.{Grows-then}
 use Rattle.clause_eval.specs.code.Engines.{see_engine}
-use Rattle.clause_eval.specs.code.States.{Grows}
-use Rattle.clause_eval.proofs.Evaluating.{Grows-then}
 use Rattle.rule_calls.specs.code.Ranks.{AreRanked}
 use Rattle.rule_calls.specs.declared.ranked.Ranked.{Ranked}
 use Rattle.rule_calls.proofs.evaluation.judge_file.Goals as goal

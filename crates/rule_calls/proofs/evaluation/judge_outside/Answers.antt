@@ -1,5 +1,5 @@
+use Rattle.engine_states.proofs.Evaluating.{Grows-none}
 use Rattle.clause_eval.specs.code.Engines.{see_engine}
-use Rattle.clause_eval.proofs.Evaluating.{Grows-none}
 use Rattle.rule_calls.proofs.RulesInTurn.{loose-empty, loose-some, may-judge-loose, none-outside, outside-judged}
 use Rattle.rule_calls.proofs.evaluation.judge_outside.Goals as goal
 

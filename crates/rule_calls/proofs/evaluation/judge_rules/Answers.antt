@@ -1,5 +1,5 @@
+use Rattle.engine_states.proofs.Evaluating.{Grows-none, Grows-then}
 use Rattle.clause_eval.specs.code.Engines.{see_engine}
-use Rattle.clause_eval.proofs.Evaluating.{Grows-none, Grows-then}
 use Rattle.rule_calls.proofs.RulesInTurn.{all-judged, all-taken, judged-next, may-judge, none-judged, still-ranked}
 use Rattle.rule_calls.proofs.evaluation.judge_rules.Goals as goal
 

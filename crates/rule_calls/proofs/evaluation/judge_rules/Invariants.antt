@@ -1,6 +1,6 @@
 use Rattle.std.proofs.Common.{take}
+use Rattle.engine_states.specs.code.States.{Grows}
 use Rattle.clause_eval.specs.code.Engines.{see_engine}
-use Rattle.clause_eval.specs.code.States.{Grows}
 use Rattle.rule_calls.specs.code.Ranks.{AreRanked}
 use Rattle.rule_calls.specs.code.Turns.{AreJudged}
 use Rattle.rule_calls.proofs.evaluation.judge_rules.Given as goal

@@ -23,25 +23,25 @@ use Rattle.query_steps.specs.code.Placed.{FiltersAt, candidates_of_place, see_pl
 use Rattle.scope_frames.specs.code.Cells.{cell_of}
 use Rattle.scope_frames.specs.code.Frames.{AreEntered, StandsFor}
 use Rattle.scope_frames.specs.code.Scoping.{IsValue}
-use Rattle.clause_eval.specs.code.Answers.{AnswersStepBehind, GivesStepBefore, above, AnswersVerdict, IsKinds}
+use Rattle.engine_states.specs.code.Answers.{AnswersStepBehind, GivesStepBefore, above, AnswersVerdict, IsKinds}
+use Rattle.engine_states.specs.code.Evaluated.{Evaluates}
+use Rattle.engine_states.specs.code.Falling.{height_at}
+use Rattle.engine_states.specs.code.Inside.{expr_sited, disj_sited}
+use Rattle.engine_states.specs.code.Kinds.{kind_of_part}
+use Rattle.engine_states.proofs.CandidatesAnswered.{all-at, candidate-may, candidate-next, candidate-rank, candidate-value, candidates-end, candidates-start, conditions-there}
+use Rattle.engine_states.proofs.Elements.{next-fits, within-len}
+use Rattle.engine_states.proofs.Evaluating.{Evaluates-none, same-file}
+use Rattle.engine_states.proofs.Finished.{found-rows-answer}
+use Rattle.engine_states.proofs.Insides.{asked-seen, found-seen, literal-seen, step-of, body-own, conds-own, disj-own, refer-seen, test-seen}
+use Rattle.engine_states.proofs.NamesAnswered.{capture-absent, capture-answer, capture-found, capture-gives, capture-rank, capture-steps, capture-still, capture-within, captured-answer, captured-rank, captured-stands, let-answer, let-rank, let-stands, param-answer, param-arg-answer, param-arg-rank, param-arg-stands, param-rank, param-stands, use-bound, use-stands, value-expr-answer, value-expr-rank, value-expr-stands, value-query-answer, value-query-rank, value-query-stands}
+use Rattle.engine_states.proofs.ParametersRead.{param-given}
+use Rattle.engine_states.proofs.PiecesLeft.{step-only, value-only}
+use Rattle.engine_states.proofs.QueriesBegun.{query-begins}
+use Rattle.engine_states.proofs.Ranks.{rank-on, step_place}
+use Rattle.engine_states.proofs.RowsAnswered.{answers-as, arg-next, arg-rank, arg-stands, args-end, args-start, asked-rank, asked-stands, call-absent, call-answer, call-given, found-absent, found-answer, found-asks, function-form, has-steps, query-answer, query-rank, query-stands, rank-as, stands-as}
+use Rattle.engine_states.proofs.StepsAnswered.{bare-further, bare-kind, filter-absent, filter-answer, filter-at, filter-before, filter-judged, filter-later, filter-place, filtered-answer, further-cited, is-filter, keys-further, keys-kind, keys-no-filter, later-place, own-absent, own-place, own-rank, right-bound, right-rank, right-stands, splice-further, splice-kind, splice-used, step-absent, step-answer, step-no-filter, step-with, tried-known, tried-says, var-further, var-kind, var-used}
+use Rattle.engine_states.proofs.StepsInTurn.{before-next, line_list, new-next, step-rank, step-stands, step-there, steps-begun, steps-end, steps-next, steps-some}
 use Rattle.clause_eval.specs.code.Engines.{see_engine}
-use Rattle.clause_eval.specs.code.Evaluated.{Evaluates}
-use Rattle.clause_eval.specs.code.Falling.{height_at}
-use Rattle.clause_eval.specs.code.Inside.{expr_sited, disj_sited}
-use Rattle.clause_eval.specs.code.Kinds.{kind_of_part}
-use Rattle.clause_eval.proofs.CandidatesAnswered.{all-at, candidate-may, candidate-next, candidate-rank, candidate-value, candidates-end, candidates-start, conditions-there}
-use Rattle.clause_eval.proofs.Elements.{next-fits, within-len}
-use Rattle.clause_eval.proofs.Evaluating.{Evaluates-none, same-file}
-use Rattle.clause_eval.proofs.Finished.{found-rows-answer}
-use Rattle.clause_eval.proofs.Insides.{asked-seen, found-seen, literal-seen, step-of, body-own, conds-own, disj-own, refer-seen, test-seen}
-use Rattle.clause_eval.proofs.NamesAnswered.{capture-absent, capture-answer, capture-found, capture-gives, capture-rank, capture-steps, capture-still, capture-within, captured-answer, captured-rank, captured-stands, let-answer, let-rank, let-stands, param-answer, param-arg-answer, param-arg-rank, param-arg-stands, param-rank, param-stands, use-bound, use-stands, value-expr-answer, value-expr-rank, value-expr-stands, value-query-answer, value-query-rank, value-query-stands}
-use Rattle.clause_eval.proofs.ParametersRead.{param-given}
-use Rattle.clause_eval.proofs.PiecesLeft.{step-only, value-only}
-use Rattle.clause_eval.proofs.QueriesBegun.{query-begins}
-use Rattle.clause_eval.proofs.Ranks.{rank-on, step_place}
-use Rattle.clause_eval.proofs.RowsAnswered.{answers-as, arg-next, arg-rank, arg-stands, args-end, args-start, asked-rank, asked-stands, call-absent, call-answer, call-given, found-absent, found-answer, found-asks, function-form, has-steps, query-answer, query-rank, query-stands, rank-as, stands-as}
-use Rattle.clause_eval.proofs.StepsAnswered.{bare-further, bare-kind, filter-absent, filter-answer, filter-at, filter-before, filter-judged, filter-later, filter-place, filtered-answer, further-cited, is-filter, keys-further, keys-kind, keys-no-filter, later-place, own-absent, own-place, own-rank, right-bound, right-rank, right-stands, splice-further, splice-kind, splice-used, step-absent, step-answer, step-no-filter, step-with, tried-known, tried-says, var-further, var-kind, var-used}
-use Rattle.clause_eval.proofs.StepsInTurn.{before-next, line_list, new-next, step-rank, step-stands, step-there, steps-begun, steps-end, steps-next, steps-some}
 use Rattle.evidence_lines.specs.declared.line.LineKind.{LineKind}
 use Rattle.guard_syntax.specs.declared.row.Row.TheVariants.{Found}
 use Rattle.guard_syntax.specs.declared.row.Verdict.TheVariants.{Skip}
@@ -50,11 +50,11 @@ use Rattle.guard_syntax.specs.declared.syntax.Conds.{Conds}
 use Rattle.rule_names.specs.ReferenceGraph.{disj_site, part_site}
 use Rattle.rule_names.proofs.Shapes.{block-seen, call-seen, kinds-seen, when-seen}
 use Rattle.evidence_rules.specs.Follows.{home_for}
-use Rattle.clause_eval.proofs.BodiesAnswered.{bodies-begun, bodies-done, bodies-missed, bodies-on, bodies-passed, body-answer, body-asked, body-enters, inner-asked}
-use Rattle.clause_eval.proofs.CallsAnswered.{both-answer, both-new, both-sides, call-enters, call-framed, call-value, called-adds, called-answer, called-asked, called-kind, called-known, called-new, lone-answer, lone-new, lone-sides, new-as, owed-as, part-sort, right-asked, stands-as as part-stands-as, test-asks}
-use Rattle.clause_eval.proofs.PartsAnswered.{block-adds, block-answer, block-asks, block-body, block-kind, block-new, block-whole, guarded-adds, guarded-answer, guarded-asks, guarded-body, guarded-framed, guarded-kind, guarded-new, guarded-whole, kinds-asks, met-type-adds, met-type-answer, met-type-asks, met-type-kind, met-type-new, met-type-whole, plain-type-adds, plain-type-answer, plain-type-kind, plain-type-new, query-said, query-told, typed-answer, typed-body, types-said, types-told, unguarded-adds, unguarded-answer, unguarded-kind, unguarded-new, unmet-type-adds, unmet-type-answer, unmet-type-kind, unmet-type-new}
-use Rattle.clause_eval.proofs.VerdictsAnswered.{alternative-asked, conditions-asks, conj-kind, conjunction-adds, conjunction-answer, conjunction-kind, conjunction-new, disj-adds, disj-answer, disj-asked, disj-kind, disj-new, disjs-begun, disjs-ended-here, disjs-on, found-answer as found-verdict-answer, found-says, parts-begun, parts-done, parts-ended-here, parts-on, same-owed}
-use Rattle.clause_eval.proofs.VerdictsInTurn.{disjs-end}
+use Rattle.engine_states.proofs.BodiesAnswered.{bodies-begun, bodies-done, bodies-missed, bodies-on, bodies-passed, body-answer, body-asked, body-enters, inner-asked}
+use Rattle.engine_states.proofs.CallsAnswered.{both-answer, both-new, both-sides, call-enters, call-framed, call-value, called-adds, called-answer, called-asked, called-kind, called-known, called-new, lone-answer, lone-new, lone-sides, new-as, owed-as, part-sort, right-asked, stands-as as part-stands-as, test-asks}
+use Rattle.engine_states.proofs.PartsAnswered.{block-adds, block-answer, block-asks, block-body, block-kind, block-new, block-whole, guarded-adds, guarded-answer, guarded-asks, guarded-body, guarded-framed, guarded-kind, guarded-new, guarded-whole, kinds-asks, met-type-adds, met-type-answer, met-type-asks, met-type-kind, met-type-new, met-type-whole, plain-type-adds, plain-type-answer, plain-type-kind, plain-type-new, query-said, query-told, typed-answer, typed-body, types-said, types-told, unguarded-adds, unguarded-answer, unguarded-kind, unguarded-new, unmet-type-adds, unmet-type-answer, unmet-type-kind, unmet-type-new}
+use Rattle.engine_states.proofs.VerdictsAnswered.{alternative-asked, conditions-asks, conj-kind, conjunction-adds, conjunction-answer, conjunction-kind, conjunction-new, disj-adds, disj-answer, disj-asked, disj-kind, disj-new, disjs-begun, disjs-ended-here, disjs-on, found-answer as found-verdict-answer, found-says, parts-begun, parts-done, parts-ended-here, parts-on, same-owed}
+use Rattle.engine_states.proofs.VerdictsInTurn.{disjs-end}
 use Rattle.clause_eval.proofs.engine.Engine.+evaluation.Goals as goal
 
 -- Rows, and what names mean.

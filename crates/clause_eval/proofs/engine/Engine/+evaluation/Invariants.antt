@@ -6,16 +6,16 @@ use Rattle.rule_names.specs.ReferenceGraph.{disj_site, part_site}
 use Rattle.rule_names.specs.Uses.{query_site}
 use Rattle.evidence_rules.specs.CitedLines.{GiveArgs, body_site}
 use Rattle.evidence_rules.specs.Follows.{SayEach, SaysCandidate, conds_site}
-use Rattle.clause_eval.specs.code.Answers.{GivesStepBefore, LacksStep, above, argument_bound}
+use Rattle.engine_states.specs.code.Answers.{GivesStepBefore, LacksStep, above, argument_bound}
+use Rattle.engine_states.specs.code.Evaluated.{Evaluates}
+use Rattle.engine_states.specs.code.Falling.{height_at}
+use Rattle.engine_states.specs.code.Inside.{expr_sited}
+use Rattle.engine_states.proofs.InTurn.{SaidFor}
+use Rattle.engine_states.proofs.Ranks.{rank_in, step_place}
+use Rattle.engine_states.proofs.RowsInTurn.{BodiesSaid}
+use Rattle.engine_states.proofs.StepsInTurn.{line_list}
+use Rattle.engine_states.proofs.VerdictsInTurn.{DisjsSoFar, PartsSoFar}
 use Rattle.clause_eval.specs.code.Engines.{see_engine}
-use Rattle.clause_eval.specs.code.Evaluated.{Evaluates}
-use Rattle.clause_eval.specs.code.Falling.{height_at}
-use Rattle.clause_eval.specs.code.Inside.{expr_sited}
-use Rattle.clause_eval.proofs.InTurn.{SaidFor}
-use Rattle.clause_eval.proofs.Ranks.{rank_in, step_place}
-use Rattle.clause_eval.proofs.RowsInTurn.{BodiesSaid}
-use Rattle.clause_eval.proofs.StepsInTurn.{line_list}
-use Rattle.clause_eval.proofs.VerdictsInTurn.{DisjsSoFar, PartsSoFar}
 use Rattle.clause_eval.proofs.engine.Engine.+evaluation.Given as goal
 
 -- Expressions and queries.

@@ -1,13 +1,13 @@
 use Rattle.std.proofs.Common.{◌<◌, ◌≤◌, ◌∷◌, ◌++◌, [], ap, ◌∙◌, ℕ, List, length, subst, sym}
 use Rattle.std.proofs.lemmas.Option.{slice_get_within}
-use Rattle.clause_eval.specs.code.Adding.{line_for}
+use Rattle.engine_states.specs.code.Adding.{line_for}
+use Rattle.engine_states.proofs.AddedLines.{is-part-added}
 use Rattle.clause_eval.specs.code.Beside.{beside_in}
 use Rattle.clause_eval.specs.code.Engines.{lines_in, part_in, see_engine}
-use Rattle.clause_eval.proofs.AddedLines.{is-part-added}
 use Rattle.evidence_lines.specs.declared.line.Line.{Line}
 use Rattle.evidence_lines.specs.declared.version.Version.TheVariants.{Two}
 use Rattle.evidence_rules.specs.Follows.{Follows}
-use Rattle.clause_eval.proofs.LinesNumbered.{within-spans}
+use Rattle.engine_states.proofs.LinesNumbered.{within-spans}
 use Rattle.clause_eval.proofs.engine.Engine.add.Goals as goal
 
 pub line_in-line-requires : goal.line_in-line-requires

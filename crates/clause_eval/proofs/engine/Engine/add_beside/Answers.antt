@@ -1,11 +1,11 @@
 use Rattle.std.proofs.Common.{◌≡◌, ◌∷◌, ◌++◌, [], ap, ◌∙◌, None, subst, sym}
 use Rattle.std.proofs.lemmas.Option.{slice_get_within}
 use Rattle.indexmap.proofs.CallerLemmas.{insert_entry-new}
-use Rattle.clause_eval.specs.code.Adding.{line_for}
+use Rattle.engine_states.specs.code.Adding.{line_for}
+use Rattle.engine_states.proofs.AddedLines.{is-beside-added}
 use Rattle.clause_eval.specs.code.Beside.{beside_in}
 use Rattle.clause_eval.specs.code.Engines.{lines_in, part_in, see_engine}
 use Rattle.clause_eval.specs.contracts.place.PlacePartialEq.TheImpl.{eq-value}
-use Rattle.clause_eval.proofs.AddedLines.{is-beside-added}
 use Rattle.clause_eval.proofs.BesideTables.{beside-none, inserted}
 use Rattle.evidence_lines.specs.declared.line.Line.{Line}
 use Rattle.evidence_lines.specs.declared.version.Version.TheVariants.{Two}

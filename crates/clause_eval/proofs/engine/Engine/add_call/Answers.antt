@@ -9,12 +9,12 @@ use Rattle.guard_syntax.specs.declared.row.Row.{Row}
 use Rattle.rule_meaning.specs.Seeing.{grown, rows_kept, trees_kept}
 use Rattle.rule_meaning.specs.StoreModel.{made_at}
 use Rattle.value_compare.specs.code.Stores.{see_store}
-use Rattle.clause_eval.specs.code.Adding.{line_for}
-use Rattle.clause_eval.specs.code.Answers.{AreGiven, IsAnswerOf}
+use Rattle.engine_states.specs.code.Adding.{line_for}
+use Rattle.engine_states.specs.code.Answers.{AreGiven, IsAnswerOf}
+use Rattle.engine_states.proofs.CallsAdded.{is-call-added, pushed-call, still-more}
+use Rattle.engine_states.proofs.MadeTrees.{none-kept}
+use Rattle.engine_states.proofs.LinesNumbered.{next-number, pushed-number, some-number, within-spans}
 use Rattle.clause_eval.specs.code.Engines.{see_engine}
-use Rattle.clause_eval.proofs.CallsAdded.{is-call-added, pushed-call, still-more}
-use Rattle.clause_eval.proofs.MadeTrees.{none-kept}
-use Rattle.clause_eval.proofs.LinesNumbered.{next-number, pushed-number, some-number, within-spans}
 use Rattle.clause_eval.proofs.engine.Engine.add_call.Goals as goal
 
 pub answer-requires-clause-given : goal.answer-requires-clause-given

@@ -5,10 +5,10 @@ use Rattle.evidence_lines.specs.declared.line.LineKind.TheVariants as kind
 use Rattle.evidence_lines.specs.declared.line.Outcome.TheVariants as says
 use Rattle.rule_meaning.specs.Keys.{captured_row}
 use Rattle.rule_meaning.specs.StoreModel.{is_known}
-use Rattle.clause_eval.specs.code.Adding.{Added}
+use Rattle.engine_states.specs.code.Adding.{Added}
+use Rattle.engine_states.specs.code.Kinds.{kind_beside}
+use Rattle.engine_states.proofs.StepsAdded.{capture-adds, captured-known, captured-rows}
 use Rattle.clause_eval.specs.code.Engines.{see_engine}
-use Rattle.clause_eval.specs.code.Kinds.{kind_beside}
-use Rattle.clause_eval.proofs.StepsAdded.{capture-adds, captured-known, captured-rows}
 use Rattle.clause_eval.proofs.engine.Engine.add_capture.Goals as goal
 
 pub rows_said-requires : goal.rows_said-requires

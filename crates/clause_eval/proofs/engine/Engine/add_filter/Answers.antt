@@ -12,9 +12,9 @@ use Rattle.rule_meaning.specs.Places.{Placed, candidates_at, rows_at_step}
 use Rattle.rule_meaning.specs.StoreModel.{is_known}
 use Rattle.value_compare.specs.code.Books.{IsBookOf}
 use Rattle.query_steps.specs.code.Placed.{StartsAt, candidates_of_place, rows_of_place}
-use Rattle.clause_eval.specs.code.Adding.{Added}
+use Rattle.engine_states.specs.code.Adding.{Added}
+use Rattle.engine_states.proofs.StepsAdded.{current-there, filter-adds, filter-frame, filter-kind, filter-known, filter-later, filter-rows, filter-tried}
 use Rattle.clause_eval.specs.code.Engines.{see_engine}
-use Rattle.clause_eval.proofs.StepsAdded.{current-there, filter-adds, filter-frame, filter-kind, filter-known, filter-later, filter-rows, filter-tried}
 use Rattle.clause_eval.proofs.engine.Engine.add_filter.Goals as goal
 
 pub current-requires : goal.current-requires

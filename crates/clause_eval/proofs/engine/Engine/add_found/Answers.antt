@@ -2,10 +2,10 @@ use Rattle.std.proofs.Common.{◌≡◌, ◌∙◌, ◌++◌, ◌∷◌, [], ap,
 use Rattle.std.proofs.lemmas.Result.{IfOk-weaker}
 use Rattle.evidence_lines.specs.declared.line.LineKind.TheVariants as kind
 use Rattle.evidence_lines.specs.declared.line.Outcome.TheVariants as says
-use Rattle.clause_eval.specs.code.Adding.{Added}
+use Rattle.engine_states.specs.code.Adding.{Added}
+use Rattle.engine_states.specs.code.Kinds.{own_kind}
+use Rattle.engine_states.proofs.RowsAnswered.{asked-says, found-adds}
 use Rattle.clause_eval.specs.code.Engines.{see_engine}
-use Rattle.clause_eval.specs.code.Kinds.{own_kind}
-use Rattle.clause_eval.proofs.RowsAnswered.{asked-says, found-adds}
 use Rattle.clause_eval.proofs.engine.Engine.add_found.Goals as goal
 
 pub rows_said-requires : goal.rows_said-requires

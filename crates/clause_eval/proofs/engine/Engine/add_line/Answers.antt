@@ -2,8 +2,8 @@ use Rattle.std.proofs.Common.{◌∙◌}
 use Rattle.std.proofs.lemmas.Grind.{merely}
 use Rattle.std.proofs.lemmas.Result.{IfOk-weaker}
 use Rattle.value_compare.specs.code.Stores.{see_store}
-use Rattle.clause_eval.proofs.EmptyEngine.{pushed-follows}
-use Rattle.clause_eval.proofs.LinesNumbered.{pushed-number}
+use Rattle.engine_states.proofs.EmptyEngine.{pushed-follows}
+use Rattle.engine_states.proofs.LinesNumbered.{pushed-number}
 use Rattle.clause_eval.proofs.engine.Engine.add_line.Goals as goal
 
 pub invariant_of-self : goal.invariant_of-self

@@ -6,9 +6,9 @@ use Rattle.guard_syntax.specs.Syntax.{literal}
 use Rattle.guard_syntax.specs.declared.row.Row.TheVariants.{Found}
 use Rattle.rule_names.specs.EnclosingScopes.{home_of}
 use Rattle.rule_names.specs.Pieces.{OfExpr}
+use Rattle.engine_states.proofs.AddsRows.{adds-literal}
+use Rattle.engine_states.proofs.Finished.{leaf-answer, rows-told}
 use Rattle.clause_eval.specs.code.Engines.{see_engine}
-use Rattle.clause_eval.proofs.AddsRows.{adds-literal}
-use Rattle.clause_eval.proofs.Finished.{leaf-answer, rows-told}
 use Rattle.clause_eval.proofs.engine.Engine.add_literal.Goals as goal
 
 pub add-requires-clause-adds : goal.add-requires-clause-adds

@@ -2,15 +2,15 @@ use Rattle.std.proofs.Common.{◌∷◌, ◌++◌, [], ap, refl, ◌∙◌, leng
 use Rattle.std.proofs.lemmas.Option.{slice_get_within}
 use Rattle.evidence_lines.specs.declared.line.LineKind.TheVariants as kind
 use Rattle.evidence_lines.specs.declared.line.Outcome.TheVariants as says
-use Rattle.clause_eval.specs.code.Adding.{line_for}
+use Rattle.engine_states.specs.code.Adding.{line_for}
+use Rattle.engine_states.proofs.AddedLines.{is-rule-added}
 use Rattle.clause_eval.specs.code.Beside.{beside_in}
 use Rattle.clause_eval.specs.code.Engines.{lines_in, part_in, see_engine}
-use Rattle.clause_eval.proofs.AddedLines.{is-rule-added}
 use Rattle.clause_eval.proofs.RuleTables.{table-set}
 use Rattle.evidence_lines.specs.declared.line.Line.{Line}
 use Rattle.evidence_lines.specs.declared.version.Version.TheVariants.{Two}
 use Rattle.evidence_rules.specs.Follows.{Follows}
-use Rattle.clause_eval.proofs.LinesNumbered.{some-number}
+use Rattle.engine_states.proofs.LinesNumbered.{some-number}
 use Rattle.clause_eval.proofs.engine.Engine.add_rule.Goals as goal
 
 pub line_in-line-requires : goal.line_in-line-requires

@@ -10,9 +10,9 @@ use Rattle.rule_meaning.specs.Places.{Placed, rows_at_step}
 use Rattle.rule_meaning.specs.StoreModel.{is_known}
 use Rattle.value_compare.specs.code.Books.{IsBookOf}
 use Rattle.query_steps.specs.code.Placed.{StartsAt, candidates_of_place, rows_of_place}
-use Rattle.clause_eval.specs.code.Adding.{Added}
+use Rattle.engine_states.specs.code.Adding.{Added}
+use Rattle.engine_states.proofs.StepsAdded.{before-rows, before-there, current-there, further-rows, further-there, kind-is, none-before, none-tried, step-adds, step-frame}
 use Rattle.clause_eval.specs.code.Engines.{see_engine}
-use Rattle.clause_eval.proofs.StepsAdded.{before-rows, before-there, current-there, further-rows, further-there, kind-is, none-before, none-tried, step-adds, step-frame}
 use Rattle.clause_eval.proofs.engine.Engine.add_step.Goals as goal
 
 pub current-requires : goal.current-requires

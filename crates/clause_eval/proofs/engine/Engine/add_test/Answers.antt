@@ -9,11 +9,11 @@ use Rattle.guard_syntax.specs.declared.row.Verdict.{Verdict}
 use Rattle.rule_names.specs.Pieces.{piece_at}
 use Rattle.rule_names.specs.ReferenceGraph.{part_site}
 use Rattle.rule_meaning.specs.StoreModel.{is_known}
-use Rattle.clause_eval.specs.code.Adding.{Added, Adds}
-use Rattle.clause_eval.specs.code.Answers.{IsTestVerdict, both_cites}
+use Rattle.engine_states.specs.code.Adding.{Added, Adds}
+use Rattle.engine_states.specs.code.Answers.{IsTestVerdict, both_cites}
+use Rattle.engine_states.specs.code.Kinds.{own_kind}
+use Rattle.engine_states.proofs.PartsAdded.{left-known, left-rows, right-rows, right-there, test-adds, test-here, test-kind}
 use Rattle.clause_eval.specs.code.Engines.{see_engine}
-use Rattle.clause_eval.specs.code.Kinds.{own_kind}
-use Rattle.clause_eval.proofs.PartsAdded.{left-known, left-rows, right-rows, right-there, test-adds, test-here, test-kind}
 use Rattle.clause_eval.proofs.engine.Engine.add_test.Goals as goal
 
 pub rows_said-requires : goal.rows_said-requires

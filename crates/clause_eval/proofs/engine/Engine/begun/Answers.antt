@@ -1,11 +1,11 @@
 use Rattle.std.proofs.Common.{◌≡◌, ℕ, suc, ◌-◌, ◌<◌, ◌≤◌, refl, sym, subst, arith, length, Some}
 use Rattle.guard_syntax.specs.code.Seen.{see_query}
 use Rattle.guard_syntax.specs.declared.syntax.Query.{out-Query}
-use Rattle.clause_eval.specs.code.Answers.{GivesStepBefore}
+use Rattle.engine_states.specs.code.Answers.{GivesStepBefore}
+use Rattle.engine_states.proofs.Elements.{next-fits, within-len}
+use Rattle.engine_states.proofs.Insides.{step-of}
+use Rattle.engine_states.proofs.StepsBegun.{begun-found, lacks-more}
 use Rattle.clause_eval.specs.code.Engines.{see_engine}
-use Rattle.clause_eval.proofs.Elements.{next-fits, within-len}
-use Rattle.clause_eval.proofs.Insides.{step-of}
-use Rattle.clause_eval.proofs.StepsBegun.{begun-found, lacks-more}
 use Rattle.clause_eval.proofs.engine.Engine.begun.Goals as goal
 
 -- what numbers say, apart from all else that is known where they stand

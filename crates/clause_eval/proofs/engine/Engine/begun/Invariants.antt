@@ -1,6 +1,6 @@
 use Rattle.std.proofs.Common.{◌≤◌, ℕ, suc}
 use Rattle.guard_syntax.specs.code.Seen.{see_query}
-use Rattle.clause_eval.specs.code.Answers.{LacksStep}
+use Rattle.engine_states.specs.code.Answers.{LacksStep}
 use Rattle.clause_eval.specs.code.Engines.{see_engine}
 use Rattle.clause_eval.proofs.engine.Engine.begun.Given as goal
 

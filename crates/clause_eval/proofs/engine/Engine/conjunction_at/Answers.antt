@@ -2,8 +2,8 @@ use Rattle.std.proofs.Common.{◌∙◌, ap, sym}
 use Rattle.std.proofs.lemmas.Option.{none-some}
 use Rattle.rule_names.specs.Pieces.{piece_at}
 use Rattle.rule_names.specs.code.Files.{file_of}
+use Rattle.engine_states.proofs.ConjunctionsSited.{only-conjoined}
 use Rattle.clause_eval.specs.code.Engines.{see_engine}
-use Rattle.clause_eval.proofs.ConjunctionsSited.{only-conjoined}
 use Rattle.clause_eval.proofs.engine.Engine.conjunction_at.Goals as goal
 
 pub unreachable-requires : goal.unreachable-requires

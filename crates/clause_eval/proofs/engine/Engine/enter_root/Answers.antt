@@ -1,5 +1,5 @@
 use Rattle.value_compare.specs.code.Stores.{see_store}
-use Rattle.clause_eval.proofs.EnteredLines.{known-root}
+use Rattle.engine_states.proofs.EnteredLines.{known-root}
 use Rattle.clause_eval.proofs.engine.Engine.enter_root.Goals as goal
 
 pub enter_scope-requires-clause-value : goal.enter_scope-requires-clause-value

@@ -2,10 +2,10 @@ use Rattle.std.proofs.Common.{◌<◌, ◌≤◌, ◌∷◌, ◌++◌, [], ap, r
 use Rattle.rule_names.specs.code.Files.{file_of}
 use Rattle.scope_frames.specs.code.Frames.{AreEntered}
 use Rattle.scope_frames.specs.declared.frame.Frame.{Frame}
+use Rattle.engine_states.proofs.EnteredLines.{enter-follows, enter-frame, enter-has, enter-known, found-entered, is-first-entered, is-new, may-framed, new-alone, new-number, same-frames, was-there}
+use Rattle.engine_states.proofs.LinesNumbered.{not-within, still-room}
 use Rattle.clause_eval.specs.code.Beside.{beside_in}
 use Rattle.clause_eval.specs.code.Engines.{lines_in, part_in, see_engine}
-use Rattle.clause_eval.proofs.EnteredLines.{enter-follows, enter-frame, enter-has, enter-known, found-entered, is-first-entered, is-new, may-framed, new-alone, new-number, same-frames, was-there}
-use Rattle.clause_eval.proofs.LinesNumbered.{not-within, still-room}
 use Rattle.clause_eval.proofs.engine.Engine.enter_scope.Goals as goal
 
 pub returns-then-number-len : goal.returns-then-number-len

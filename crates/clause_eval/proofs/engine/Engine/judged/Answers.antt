@@ -1,8 +1,8 @@
 use Rattle.std.proofs.Common.{sym, ◌∙◌}
 use Rattle.guard_syntax.specs.code.Seen.{see_rule}
+use Rattle.engine_states.proofs.RulesAnswered.{judged-again, rule-says}
+use Rattle.engine_states.proofs.RulesJudged.{judged, may-judge-later}
 use Rattle.clause_eval.specs.code.Engines.{see_engine}
-use Rattle.clause_eval.proofs.RulesAnswered.{judged-again, rule-says}
-use Rattle.clause_eval.proofs.RulesJudged.{judged, may-judge-later}
 use Rattle.clause_eval.proofs.engine.Engine.judged.Goals as goal
 
 pub verdict_said-requires : goal.verdict_said-requires

@@ -1,7 +1,7 @@
 use Rattle.std.proofs.Common.{sym, ◌∙◌}
+use Rattle.engine_states.proofs.RulesAnswered.{judged-again, may-loose-later, rule-says}
+use Rattle.engine_states.proofs.RulesJudged.{judged}
 use Rattle.clause_eval.specs.code.Engines.{see_engine}
-use Rattle.clause_eval.proofs.RulesAnswered.{judged-again, may-loose-later, rule-says}
-use Rattle.clause_eval.proofs.RulesJudged.{judged}
 use Rattle.clause_eval.proofs.engine.Engine.judged_loose.Goals as goal
 
 pub verdict_said-requires : goal.verdict_said-requires

@@ -1,8 +1,8 @@
 use Rattle.std.proofs.Common.{sym, ap, ◌∙◌, subst}
 use Rattle.rule_meaning.specs.StoreModel.{StoreModel}
+use Rattle.engine_states.specs.code.States.{State, StillFollows}
+use Rattle.engine_states.proofs.KeptStores.{same-store}
 use Rattle.clause_eval.specs.code.Engines.{see_engine}
-use Rattle.clause_eval.specs.code.States.{State, StillFollows}
-use Rattle.clause_eval.proofs.KeptStores.{same-store}
 use Rattle.clause_eval.proofs.engine.Engine.keep_literal.Goals as goal
 
 pub invariant_of-self-clause-store_over : goal.invariant_of-self-clause-store_over

@@ -6,10 +6,10 @@ use Rattle.guard_syntax.specs.Syntax.{literal}
 use Rattle.rule_names.specs.EnclosingScopes.{home_of}
 use Rattle.rule_names.specs.Pieces.{OfExpr}
 use Rattle.rule_meaning.specs.StoreModel.{tree_of_piece}
-use Rattle.clause_eval.specs.code.Answers.{AnswersRows, StandsIn}
+use Rattle.engine_states.specs.code.Answers.{AnswersRows, StandsIn}
+use Rattle.engine_states.specs.code.States.{IsWhole, State}
+use Rattle.engine_states.proofs.Finished.{found-rows-answer}
 use Rattle.clause_eval.specs.code.Engines.{see_engine}
-use Rattle.clause_eval.specs.code.States.{IsWhole, State}
-use Rattle.clause_eval.proofs.Finished.{found-rows-answer}
 use Rattle.clause_eval.proofs.engine.Engine.literal.Goals as goal
 
 pub returns-in-Some : goal.returns-in-Some

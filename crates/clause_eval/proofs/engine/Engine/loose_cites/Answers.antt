@@ -1,6 +1,6 @@
 use Rattle.std.proofs.Common.{ℕ, ap, ◌∙◌, List, [], ◌∷◌, ◌++◌}
+use Rattle.engine_states.proofs.RulesAnswered.{loose-asks, loose-ready, loose-seen}
 use Rattle.clause_eval.specs.code.Engines.{see_engine}
-use Rattle.clause_eval.proofs.RulesAnswered.{loose-asks, loose-ready, loose-seen}
 use Rattle.clause_eval.proofs.engine.Engine.loose_cites.Goals as goal
 
 pub conjunction-requires-clause-stands : goal.conjunction-requires-clause-stands

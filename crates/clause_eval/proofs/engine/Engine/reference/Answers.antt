@@ -5,8 +5,8 @@ use Rattle.evidence_lines.specs.declared.line.LineKind.TheVariants as kind
 use Rattle.guard_syntax.specs.Syntax.{File}
 use Rattle.rule_names.specs.Resolution.{target_of}
 use Rattle.rule_names.specs.code.Files.{file_of}
+use Rattle.engine_states.proofs.PartsAdded.{reference-adds, reference-answers, reference-kind, rule-line, rule-said, target-there}
 use Rattle.clause_eval.specs.code.Engines.{see_engine}
-use Rattle.clause_eval.proofs.PartsAdded.{reference-adds, reference-answers, reference-kind, rule-line, rule-said, target-there}
 use Rattle.clause_eval.proofs.engine.Engine.reference.Goals as goal
 
 pub unreachable-requires : goal.unreachable-requires

@@ -1,5 +1,5 @@
 use Rattle.std.proofs.Common.{◌∙◌, sym, subst, ℕ, Option}
-use Rattle.clause_eval.specs.code.Answers.{HasRows, SaysRows}
+use Rattle.engine_states.specs.code.Answers.{HasRows, SaysRows}
 use Rattle.clause_eval.proofs.engine.Engine.rows_of.Goals as goal
 
 pub returns-in-Some : goal.returns-in-Some

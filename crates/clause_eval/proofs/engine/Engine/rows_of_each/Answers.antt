@@ -1,6 +1,6 @@
 use Rattle.std.proofs.Common.{◌∙◌, ap, [], map, get_or}
 use Rattle.guard_builtins.specs.code.Seen.{see_rows}
-use Rattle.clause_eval.proofs.RowsListed.{rows-all, rows-at, rows-next}
+use Rattle.engine_states.proofs.RowsListed.{rows-all, rows-at, rows-next}
 use Rattle.clause_eval.proofs.engine.Engine.rows_of_each.Goals as goal
 
 pub loop-line-init : goal.loop-line-init

@@ -1,7 +1,7 @@
 use Rattle.std.proofs.Common.{◌≡◌, List, map, take}
 use Rattle.guard_builtins.specs.code.Seen.{see_rows}
 use Rattle.guard_syntax.specs.declared.row.Row.{Row}
-use Rattle.clause_eval.specs.code.Answers.{SayRowsOf}
+use Rattle.engine_states.specs.code.Answers.{SayRowsOf}
 use Rattle.clause_eval.proofs.engine.Engine.rows_of_each.Given as goal
 
 abbrev pub invariant-loop-line : goal.invariant-loop-line

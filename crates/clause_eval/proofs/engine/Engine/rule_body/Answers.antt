@@ -1,8 +1,8 @@
 use Rattle.std.proofs.Common.{ℕ, ap, ◌∙◌, List, [], ◌∷◌, ◌++◌}
 use Rattle.std.proofs.lemmas.Option.{slice_get_within}
 use Rattle.guard_syntax.specs.code.Seen.{see_opt_conds, see_rule}
+use Rattle.engine_states.proofs.RulesAnswered.{file_frame, plain-ready, rule-body}
 use Rattle.clause_eval.specs.code.Engines.{see_engine}
-use Rattle.clause_eval.proofs.RulesAnswered.{file_frame, plain-ready, rule-body}
 use Rattle.clause_eval.proofs.engine.Engine.rule_body.Goals as goal
 
 pub current-current-requires : goal.current-current-requires

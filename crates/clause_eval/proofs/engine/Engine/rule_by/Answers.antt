@@ -5,10 +5,10 @@ use Rattle.guard_syntax.specs.declared.row.Verdict.{Verdict}
 use Rattle.rule_names.specs.Pieces.{piece_at}
 use Rattle.rule_names.specs.code.Files.{file_of}
 use Rattle.rule_names.specs.declared.file.RuleFile.{RuleFile}
-use Rattle.clause_eval.specs.code.Adding.{Added, Adds}
+use Rattle.engine_states.specs.code.Adding.{Added, Adds}
+use Rattle.engine_states.specs.code.Ruling.{IsRuledBy, has_conditions}
+use Rattle.engine_states.proofs.RuledBy.{rule-new, rule-told}
 use Rattle.clause_eval.specs.code.Engines.{see_engine}
-use Rattle.clause_eval.specs.code.Ruling.{IsRuledBy, has_conditions}
-use Rattle.clause_eval.proofs.RuledBy.{rule-new, rule-told}
 use Rattle.clause_eval.proofs.engine.Engine.rule_by.Goals as goal
 
 pub ruled-verdict-requires : goal.ruled-verdict-requires

@@ -1,8 +1,8 @@
 use Rattle.std.proofs.Common.{ℕ, sym, ap, ◌∙◌, List, [], ◌∷◌, ◌++◌}
 use Rattle.guard_syntax.specs.code.Seen.{see_conds, see_opt_conds, see_rule}
+use Rattle.engine_states.proofs.RulesAnswered.{met-body, met-framed, met-ready, unmet-ready}
+use Rattle.engine_states.proofs.RulesJudged.{conditions-stand}
 use Rattle.clause_eval.specs.code.Engines.{see_engine}
-use Rattle.clause_eval.proofs.RulesAnswered.{met-body, met-framed, met-ready, unmet-ready}
-use Rattle.clause_eval.proofs.RulesJudged.{conditions-stand}
 use Rattle.clause_eval.proofs.engine.Engine.rule_cites.Goals as goal
 
 pub conditions-requires-clause-stands : goal.conditions-requires-clause-stands

@@ -2,8 +2,8 @@ use Rattle.std.proofs.Common.{◌≡◌, ◌∙◌, sym, arith, length}
 use Rattle.std.proofs.lemmas.Bool.Decides.{nat_tests}
 use Rattle.rule_names.specs.Pieces.{piece_at}
 use Rattle.rule_names.specs.code.Files.{file_of}
-use Rattle.clause_eval.specs.code.Ruling.{has_conditions}
-use Rattle.clause_eval.proofs.RuledBy.{first-said, second-said}
+use Rattle.engine_states.specs.code.Ruling.{has_conditions}
+use Rattle.engine_states.proofs.RuledBy.{first-said, second-said}
 use Rattle.clause_eval.proofs.engine.Engine.ruled.Goals as goal
 
 pub returns-then-cites-eq2 : goal.returns-then-cites-eq2

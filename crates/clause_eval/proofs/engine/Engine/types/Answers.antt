@@ -6,9 +6,9 @@ use Rattle.rule_names.specs.Pieces.{OfPart}
 use Rattle.rule_names.specs.code.Files.{file_of}
 use Rattle.rule_meaning.specs.Places.{IsTypeAt}
 use Rattle.rule_meaning.specs.StoreModel.{is_known}
+use Rattle.engine_states.proofs.PartsAdded.{types-adds, types-answer, types-current, types-found, types-frame, types-kind, types-parts, types-stand}
+use Rattle.engine_states.proofs.SitesWithin.{site-within}
 use Rattle.clause_eval.specs.code.Engines.{see_engine}
-use Rattle.clause_eval.proofs.PartsAdded.{types-adds, types-answer, types-current, types-found, types-frame, types-kind, types-parts, types-stand}
-use Rattle.clause_eval.proofs.SitesWithin.{site-within}
 use Rattle.clause_eval.proofs.engine.Engine.types.Goals as goal
 
 pub returns-in-Some-clause-said : goal.returns-in-Some-clause-said
