@@ -81,6 +81,9 @@ counts-more known lines counts later x is are one = subst (AreCounts known lines
     by n (inr same) =
         ap (λ (m : ℕ). slice_index_or (counts ++ x ∷ []) m 0) same ∙ last-at counts x ∙ one ∙ sym (ap (λ (m : ℕ). count_of known lines (suc m)) same)
 
+pub one-longer : (old new : List ℕ) (x n : ℕ) → new ≡ old ++ x ∷ [] → length old ≡ n → length new ≡ n + 1
+one-longer old new x n is size = ap (λ (xs : List ℕ). length xs) is ∙ length-append old (x ∷ []) ∙ ap (λ (k : ℕ). k + 1) size
+
 -- an earlier line that says FAIL is counted
 pub lead-counted : (known : StoreModel) (lines : List Line) (counts : List ℕ) (x : Lead) (c result : ℕ) → x ≡ lead.Line c → AreCounts known lines counts
     → IsBelow known lines (suc (length counts)) (see_lead known x) → result ≡ call_at counts c → result ≡ counted (entries_behind (λ (n : ℕ). line_fails known lines n n) (see_lead known x))

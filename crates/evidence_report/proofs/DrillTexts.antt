@@ -38,6 +38,13 @@ module _ (all : List VerdictLine) (i : ℕ) where
   pub verdicts-all : (vs : List Verdict) → length all ≤ i → vs ≡ verdicts_in (take i all) → vs ≡ verdicts_in all
   verdicts-all vs past is = is ∙ ap verdicts_in (take_all i all past)
 
+-- ---- the parts of the text
+
+pub text-made : (none first second third all a h b t : List ℕ) → none ≡ [] → first ≡ none ++ a → second ≡ first ++ h → third ≡ second ++ b → all ≡ third ++ t → all ≡ a ++ h ++ b ++ t
+text-made none first second third all a h b t empty one two three four =
+    four
+    ∙ ap (λ (x : List ℕ). x ++ t) (three ∙ ap (λ (x : List ℕ). x ++ b) (two ∙ ap (λ (x : List ℕ). x ++ h) (one ∙ ap (λ (x : List ℕ). x ++ a) empty)))
+
 -- ---- what is reported
 
 drill-alike : (count a b : ℕ) (xs ys t u : List ℕ) → a ≡ b → xs ≡ ys → t ≡ u

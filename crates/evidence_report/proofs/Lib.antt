@@ -8,13 +8,15 @@ mod KnownRows
 mod LeadEntries
 mod Listing
 mod LoopLeads
+mod PartLeads
 mod ReportTexts
 mod ReportedBy
 mod RuleSites
 mod RuleTables
+mod SetsAsked
 mod SitesOfLines
 pub mod TakenTexts
 mod Tallies
-mod TestParts
 mod ToldEntries
 mod WrittenLeads
+mod Writing

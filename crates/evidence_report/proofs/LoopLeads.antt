@@ -1,13 +1,15 @@
 -- Loops that append leads for each element in turn: what is appended so far, and what is left to append.
-use Rattle.std.proofs.Common.{◌≡◌, ℕ, suc, ◌+◌, ◌<◌, ◌≤◌, List, [], ◌∷◌, ◌++◌, length, get_or, drop, drop-cons, map, refl, sym, ap, subst, ◌∙◌, arith}
+use Rattle.std.proofs.Common.{◌≡◌, Bool, true, false, if◌then◌else◌, ℕ, suc, ◌+◌, ◌<◌, ◌≤◌, List, [], ◌∷◌, ◌++◌, length, get_or, drop, drop-cons, map, Result, OnOk, refl, sym, ap, subst, ◌∙◌, arith}
 use Rattle.std.specs.List.{flat_map}
 use Rattle.std.proofs.lemmas.List.{drop_all, map-append}
+use Rattle.guard_syntax.specs.declared.row.Ref.{Ref}
 use Rattle.guard_syntax.specs.declared.row.Row.{Row}
-use Rattle.rule_meaning.specs.Fails.{Entry, first_or, missing_row}
+use Rattle.guard_syntax.specs.declared.row.Row.TheVariants.{Found}
+use Rattle.rule_meaning.specs.Fails.{Entry, first_or, missing_row, tested_row}
 use Rattle.rule_meaning.specs.StoreModel.{StoreModel}
 use Rattle.evidence_lines.specs.declared.line.Line.{Line}
-use Rattle.evidence_truth.specs.code.LineFails.{see}
-use Rattle.evidence_report.specs.code.Leads.{Appends, Leading, ToEntry, cites_behind, own, row_leads, rows_leads}
+use Rattle.evidence_truth.specs.code.LineFails.{failed_row, see}
+use Rattle.evidence_report.specs.code.Leads.{Appends, Leading, ToEntry, cite_leads, cites_behind, own, row_leads, rows_leads}
 use Rattle.evidence_report.specs.declared.lead.Lead.{Lead}
 use Rattle.evidence_report.proofs.Appending.{none-appended, then-appended}
 
@@ -59,18 +61,46 @@ module _ (known : StoreModel) where
         is ∙ ap (λ (ys : List Row). flat_map (missing_row part) (map (see known lines) ys)) (next-left rows i d within)
         ∙ ap (λ (xs : List Entry). xs ++ flat_map (missing_row part) (map (see known lines) (drop (i + 1) rows))) none
 
+    abbrev missing_from : ℕ → List Row → List Entry
+    missing_from i rows = flat_map (missing_row part) (map (see known lines) (drop i rows))
+
+    -- a row that passes a test has no entry, another has one
+    pub row-passed : (holds : Row → Bool) (x : Row) (now : List Lead) (p : Bool) → p ≡ holds x → p ≡ true → Appends known now now (own (failed_row known lines part holds x))
+    row-passed holds x now p is on = subst (λ (b : Bool). Appends known now now (own (if b then [] else tested_row part (see known lines x)))) (sym on ∙ is) (none-appended known now)
+
+    pub row-failed : (holds : Row → Bool) (x : Row) (now later : List Lead) (p : Bool) → p ≡ holds x → p ≡ false → Appends known now later (own (tested_row part (see known lines x)))
+        → Appends known now later (own (failed_row known lines part holds x))
+    row-failed holds x now later p is off more = subst (λ (b : Bool). Appends known now later (own (if b then [] else tested_row part (see known lines x)))) (sym off ∙ is) more
+
+    -- a row that was found leads to the line of the first cite
+    pub found-led : (v : Ref) (cites : List ℕ) (d : ℕ) (now later : List Lead) → 1 ≤ length cites → Appends known now later (cite_leads known lines (get_or cites 0 d))
+        → Appends known now later (row_leads known lines part (Found v) cites)
+    found-led v [] d now later some more = absurd (omega (arith, some))
+    found-led v (c ∷ cites) d now later some more = more
+
     -- the first row at which nothing was found has the entry
-    pub first-there : (rows : List Row) (i : ℕ) (d : Row) (other e : Entry) → i < length rows → (es : List Entry) → missing_row part (see known lines (get_or rows i d)) ≡ e ∷ []
-        → es ≡ flat_map (missing_row part) (map (see known lines) (drop i rows)) → missing_row part (see known lines (get_or rows i d)) ≡ first_or other es
-    first-there rows i d other e within es one is =
-        let rest = flat_map (missing_row part) (map (see known lines) (drop (i + 1) rows)) in
+    pub first-appended : {A E : Type 0} (rows : List Row) (i : ℕ) (d : Row) (other e : Entry) (start now later : List Lead) (r : Result A E) → i < length rows
+        → missing_row part (see known lines (get_or rows i d)) ≡ e ∷ [] → now ≡ start → flat_map (missing_row part) (map (see known lines) rows) ≡ missing_from i rows
+        → OnOk r (Appends known now later (own (missing_row part (see known lines (get_or rows i d)))))
+        → OnOk r (Appends known start later (own (first_or other (flat_map (missing_row part) (map (see known lines) rows)))))
+    first-appended rows i d other e start now later r within one same is more =
+        let rest = missing_from (i + 1) rows in
+        let first : missing_row part (see known lines (get_or rows i d)) ≡ first_or other (flat_map (missing_row part) (map (see known lines) rows)) =
         one
         ∙ sym (ap (first_or other) (is ∙ ap (λ (ys : List Row). flat_map (missing_row part) (map (see known lines) ys)) (next-left rows i d within)
-        ∙ ap (λ (xs : List Entry). xs ++ rest) one))
+        ∙ ap (λ (xs : List Entry). xs ++ rest) one)) in
+        subst (λ (a : List Lead). OnOk r (Appends known a later (own (first_or other (flat_map (missing_row part) (map (see known lines) rows)))))) same
+        (subst (λ (es : List Entry). OnOk r (Appends known now later (own es))) first more)
 
-    pub none-there : (rows : List Row) (i : ℕ) (other : Entry) → length rows ≤ i → (es : List Entry) → es ≡ flat_map (missing_row part) (map (see known lines) (drop i rows)) → other ∷ [] ≡ first_or other es
-    none-there rows i other past es is =
-        sym (ap (first_or other) (is ∙ ap (λ (ys : List Row). flat_map (missing_row part) (map (see known lines) ys)) (drop_all i rows past)))
+    -- where there is none, another
+    pub other-appended : {A E : Type 0} (rows : List Row) (i : ℕ) (other : Entry) (start now later : List Lead) (r : Result A E) → length rows ≤ i → now ≡ start
+        → flat_map (missing_row part) (map (see known lines) rows) ≡ missing_from i rows → OnOk r (Appends known now later (ToEntry other ∷ []))
+        → OnOk r (Appends known start later (own (first_or other (flat_map (missing_row part) (map (see known lines) rows)))))
+    other-appended rows i other start now later r past same is more =
+        let alone : other ∷ [] ≡ first_or other (flat_map (missing_row part) (map (see known lines) rows)) =
+        sym (ap (first_or other) (is ∙ ap (λ (ys : List Row). flat_map (missing_row part) (map (see known lines) ys)) (drop_all i rows past))) in
+        subst (λ (a : List Lead). OnOk r (Appends known a later (own (first_or other (flat_map (missing_row part) (map (see known lines) rows)))))) same
+        (subst (λ (es : List Entry). OnOk r (Appends known now later (own es))) alone more)
 
 -- entries of their own, one list after another
 pub own-flat : {A : Type 0} (g : A → List Entry) (xs : List A) → flat_map (λ (x : A). own (g x)) xs ≡ own (flat_map g xs)

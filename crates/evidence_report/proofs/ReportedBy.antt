@@ -5,14 +5,12 @@ use Rattle.std.proofs.lemmas.Bool.Decides.{nat_tests}
 use Rattle.evidence_lines.specs.declared.line.Line.{Line}
 use Rattle.evidence_lines.specs.declared.line.LineKind.TheVariants as kind
 use Rattle.evidence_lines.specs.declared.line.Outcome.TheVariants as says
-use Rattle.evidence_lines.specs.declared.version.Version.{Version}
 use Rattle.guard_syntax.specs.Named.{Named}
 use Rattle.guard_syntax.specs.Syntax as sx
 use Rattle.guard_syntax.specs.code.Seen.{disj_list, see_disj}
 use Rattle.guard_syntax.specs.declared.syntax.Disj.{Disj}
 use Rattle.guard_syntax.specs.declared.row.Verdict.{Verdict}
 use Rattle.guard_syntax.specs.declared.row.Verdict.TheVariants as verdict
-use Rattle.rule_names.specs.Pieces.{AreInOrder}
 use Rattle.rule_meaning.specs.Fails.{Entry, loose_fails, rule_fails}
 use Rattle.rule_meaning.specs.Locations.{Answers, World}
 use Rattle.rule_meaning.specs.NameMeaning.{loose_verdict, rule_verdict}
@@ -23,15 +21,11 @@ use Rattle.evidence_rules.specs.Follows.{IsLooseJudged}
 use Rattle.evidence_rules.specs.RuleLines.{IsSaidOf}
 use Rattle.evidence_truth.specs.code.LineFails.{line_fails}
 use Rattle.guard_ends.specs.Reported.{Reported, if_fail, if_plain, of_loose, of_rule}
-use Rattle.evidence_report.specs.code.RuleEntries.{AreHeldLines, AreTold, IsAccepted}
-use Rattle.evidence_report.specs.code.RuleTables.{AreRuleLines}
+use Rattle.evidence_report.specs.code.RuleEntries.{AreTold}
+use Rattle.evidence_report.specs.code.RuleTables.{AreJudged, AreRuleLines, HasLoose, HasRule}
 use Rattle.evidence_report.specs.code.VerdictLines.{reported_by}
 use Rattle.evidence_report.specs.declared.rule_lines.RuleLine.{RuleLine}
 use Rattle.evidence_report.proofs.RuleSites.{file-within, rule-within}
-
--- accepted evidence has lines that follow
-pub accepted-held : (version : Version) (held : StoreModel) (lines : List Line) → IsAccepted version held lines → AreHeldLines version held lines
-accepted-held version held lines is = record { follow = is.accepts.follow; last = is.last; leads = is.leads; holds = is.holds }
 
 -- ---- lines that are there
 
@@ -43,23 +37,25 @@ none-given : (ps : List Named) → length ps ≡ 0 → ps ≡ []
 none-given [] none = refl
 none-given (p ∷ ps) none = absurd (omega (arith, none))
 
-module _ (version : Version) (held : StoreModel) (lines : List Line) (accepted : IsAccepted version held lines) (order : AreInOrder held.file)
-    (table : List (Option RuleLine)) (sites : length table ≡ length held.file.places) (are : AreRuleLines lines table) where
+module _ (lines : List Line) (file : sx.File) (judged : AreJudged lines file) (table : List (Option RuleLine)) (sites : length table ≡ length file.places) (are : AreRuleLines lines table) where
   -- the table has the line of a rule without parameters
-  pub rule-listed : (r : sx.Rule) → Contains held.file.rules r → length r.params ≡ 0 → is_some (slice_index_or table r.site None) ≡ true
-  rule-listed r among none =
-      let judged = accepted.accepts.rules r among (none-given r.params none) in
-      let one : RuleLine = record { site = r.site; number = judged.0; verdict = judged.2 } in
-      let within = rule-within held.file order r among in
-      are.whole one (judged.1, judged.3) (omega (arith, within, sites))
+  pub has-rule : (r : sx.Rule) → Contains file.rules r → HasRule table r
+  has-rule r among none =
+      let has = judged.rules r among (none-given r.params none) in
+      let one : RuleLine = record { site = r.site; number = has.0; verdict = has.2 } in
+      let within = rule-within file judged.order r among in
+      are.whole one (has.1, has.3) (omega (arith, within, sites))
 
   -- and that of the parts outside rules, if there are some
-  pub loose-listed : (d : sx.Disj) (ds : sx.Disjs) → held.file.loose ≡ sx.more_disjs d ds → is_some (slice_index_or table 0 None) ≡ true
-  loose-listed d ds some =
-      let judged = subst (IsLooseJudged lines) some accepted.accepts.loose in
-      let one : RuleLine = record { site = 0; number = judged.0; verdict = judged.2 } in
-      let within = file-within held.file order in
-      are.whole one (judged.1, judged.3) (omega (arith, within, sites))
+  pub has-loose : HasLoose table file.loose
+  has-loose = by file.loose judged.loose
+    where
+      by : (ds : sx.Disjs) → IsLooseJudged lines ds → HasLoose table ds
+      by sx.no_disjs has = tt
+      by (sx.more_disjs d ds) has =
+          let one : RuleLine = record { site = 0; number = has.0; verdict = has.2 } in
+          let within = file-within file judged.order in
+          are.whole one (has.1, has.3) (omega (arith, within, sites))
 
 -- ---- what they say
 
@@ -95,26 +91,25 @@ module _ (held : StoreModel) (lines : List Line) (answers : Answers) (told : Are
   said-fails : x.verdict ≡ verdict.Fail → IsLine lines x.number kind.Rule (are.sound site x at).1.0 site (says.Verdict verdict.Fail)
   said-fails fails = subst (λ (v : Verdict). IsLine lines x.number kind.Rule (are.sound site x at).1.0 site (says.Verdict v)) fails here
 
-  pub rule-reported : (r : sx.Rule) → r.site ≡ site → Contains held.file.rules r → length r.params ≡ 0 → ((v : Verdict) → IsSaidOf lines r.site v → v ≡ rule_verdict (world_of held answers) r)
-      → reported_by held lines r.name.text x ∷ [] ≡ of_rule (world_of held answers) r
-  rule-reported r placed among none verdicts =
+  pub rule-reported : (r : sx.Rule) → r.site ≡ site → Contains held.file.rules r → length r.params ≡ 0 → reported_by held lines r.name.text x ∷ [] ≡ of_rule (world_of held answers) r
+  rule-reported r placed among none =
       let es = line_fails held lines x.number x.number in
       let said : IsSaidOf lines r.site x.verdict = (x.number, (are.sound site x at).1.0, subst (λ (n : ℕ). IsLine lines x.number kind.Rule (are.sound site x at).1.0 n (says.Verdict x.verdict)) (sym placed) here) in
       let fails : x.verdict ≡ verdict.Fail → es ≡ rule_fails world r =
-      λ is. (told x.number).rule r (are.sound site x at).1.0 among (subst (λ (n : ℕ). IsLine lines x.number kind.Rule (are.sound site x at).1.0 n (says.Verdict verdict.Fail)) (sym placed) (said-fails is)) in
+      λ is. (told.entries x.number).rule r (are.sound site x at).1.0 among (subst (λ (n : ℕ). IsLine lines x.number kind.Rule (are.sound site x at).1.0 n (says.Verdict verdict.Fail)) (sym placed) (said-fails is)) in
       ap (λ (fs : List Entry). record { name = r.name.text; verdict = x.verdict; fails = fs } ∷ []) (fails-alike x.verdict es (rule_fails world r) fails)
-      ∙ ap (λ (v : Verdict). under r.name.text v (rule_fails world r) ∷ []) (verdicts x.verdict said)
+      ∙ ap (λ (v : Verdict). under r.name.text v (rule_fails world r) ∷ []) (told.rules r x.verdict among said)
       ∙ sym (plain-one (under r.name.text (rule_verdict world r) (rule_fails world r)) r.params none)
 
-  pub loose-reported : (d : sx.Disj) (ds : sx.Disjs) → held.file.loose ≡ sx.more_disjs d ds → site ≡ 0 → ((v : Verdict) → IsSaidOf lines 0 v → v ≡ loose_verdict (world_of held answers) held.file.loose)
+  pub loose-reported : (d : sx.Disj) (ds : sx.Disjs) → held.file.loose ≡ sx.more_disjs d ds → site ≡ 0
       → reported_by held lines (codes "default") x ∷ [] ≡ of_loose (world_of held answers) held.file.loose
-  loose-reported d ds some placed verdicts =
+  loose-reported d ds some placed =
       let es = line_fails held lines x.number x.number in
       let said : IsSaidOf lines 0 x.verdict = (x.number, (are.sound site x at).1.0, subst (λ (n : ℕ). IsLine lines x.number kind.Rule (are.sound site x at).1.0 n (says.Verdict x.verdict)) placed here) in
       let fails : x.verdict ≡ verdict.Fail → es ≡ loose_fails world held.file.loose =
-      λ is. (told x.number).loose (are.sound site x at).1.0 (subst (λ (n : ℕ). IsLine lines x.number kind.Rule (are.sound site x at).1.0 n (says.Verdict verdict.Fail)) placed (said-fails is)) in
+      λ is. (told.entries x.number).loose (are.sound site x at).1.0 (subst (λ (n : ℕ). IsLine lines x.number kind.Rule (are.sound site x at).1.0 n (says.Verdict verdict.Fail)) placed (said-fails is)) in
       ap (λ (fs : List Entry). record { name = codes "default"; verdict = x.verdict; fails = fs } ∷ []) (fails-alike x.verdict es (loose_fails world held.file.loose) fails)
-      ∙ ap (λ (v : Verdict). under (codes "default") v (loose_fails world held.file.loose) ∷ []) (verdicts x.verdict said)
+      ∙ ap (λ (v : Verdict). under (codes "default") v (loose_fails world held.file.loose) ∷ []) (told.loose x.verdict said)
       ∙ ap (λ (o : sx.Disjs). under (codes "default") (loose_verdict world o) (loose_fails world o) ∷ []) some
       ∙ sym (ap (of_loose world) some)
 
@@ -126,6 +121,10 @@ some-loose (d ∷ ds) some = (see_disj d, disj_list (map see_disj ds), refl)
 pub no-loose : (world : World) (ds : List Disj) → length ds ≡ 0 → of_loose world (disj_list (map see_disj ds)) ≡ []
 no-loose world [] none = refl
 no-loose world (d ∷ ds) none = absurd (omega (arith, none))
+
+pub loose-there : (table : List (Option RuleLine)) (ds : List Disj) → (length ds ≡ 0 → ⊥) → HasLoose table (disj_list (map see_disj ds)) → is_some (slice_index_or table 0 None) ≡ true
+loose-there table [] some has = absurd (some refl)
+loose-there table (d ∷ ds) some has = has
 
 -- a list that is told empty has no length
 pub none-left : {X : Type 0} (xs : List X) (b : Bool) → b ≡ (length xs == 0) → b ≡ true → length xs ≡ 0

@@ -1,5 +1,5 @@
 -- The lines of the entries behind leads, one lead after another.
-use Rattle.std.proofs.Common.{◌≡◌, ℕ, ◌<◌, ◌+◌, ◌*◌, false, List, [], ◌∷◌, ◌++◌, length, get_or, map, refl, sym, ap, subst, ◌∙◌, append_assoc, zero, suc, arith}
+use Rattle.std.proofs.Common.{◌≡◌, ℕ, ◌<◌, ◌+◌, ◌*◌, false, List, [], ◌∷◌, ◌++◌, length, get_or, map, refl, sym, ap, subst, ◌∙◌, append-nil, append_assoc, zero, suc, arith}
 use Rattle.std.specs.List.{flat_map}
 use Rattle.evidence_lines.specs.Lines.{line_of}
 use Rattle.evidence_lines.specs.declared.line.Line.{Line}
@@ -11,6 +11,8 @@ use Rattle.report_text.specs.Texts.{Texts}
 use Rattle.evidence_report.specs.code.Leads.{AreBelow, CitesFall, IsBelow, Leading, ToLine, entries_behind, line_leads, see_lead}
 use Rattle.evidence_report.specs.code.Written.{entry_lines}
 use Rattle.guard_syntax.specs.declared.row.Origin.TheVariants.{Template}
+use Rattle.report_text.specs.code.SeenEntries.{see_entry}
+use Rattle.report_text.specs.declared.entry.Entry as lead_entry
 use Rattle.report_text.specs.declared.entry.Shown.TheVariants as shown
 use Rattle.report_text.specs.declared.entry.Word.TheVariants as word
 use Rattle.evidence_report.specs.declared.lead.Lead.{Lead}
@@ -33,6 +35,9 @@ module _ (known : StoreModel) (lines : List Line) (texts : Texts) where
   texts-behind (x ∷ xs) =
       ap (λ (t : List ℕ). lead_text x ++ t) (texts-behind xs)
       ∙ sym (lines-both known texts (entries_behind (λ (c : ℕ). line_fails known lines c c) (see_lead known x)) (flat_map (entries_behind (λ (c : ℕ). line_fails known lines c c)) (map (see_lead known) xs)))
+
+  pub entry-text : (x : Lead) (e : lead_entry.Entry) → x ≡ lead.Entry e → entry_line known.file known.template texts (see_entry known e) ≡ lead_text x
+  entry-text x e is = sym (append-nil (entry_line known.file known.template texts (see_entry known e))) ∙ sym (ap lead_text is)
 
   module _ (falls : CitesFall lines) (number : ℕ) (xs : List Lead) (are : map (see_lead known) xs ≡ line_leads known lines (line_of lines number)) where
     pub line-text : flat_map lead_text xs ≡ entry_lines known texts (line_fails known lines number number)

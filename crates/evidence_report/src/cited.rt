@@ -3,13 +3,11 @@ ghost use Rattle.std.specs.Prelude.{◌≡◌, Some, true};
 ghost use Rattle.guard_syntax.specs.code.Seen.{see_opt_conds};
 ghost use Rattle.rule_meaning.specs.Roots.{root_ref};
 ghost use Rattle.rule_meaning.specs.StoreModel.{StoreModel, is_known_ref};
-ghost use Rattle.evidence_lookups.specs.code.Grounds.{known_of, lines_of};
 ghost use Rattle.evidence_truth.specs.code.LineFails.{behind_conds, is_failing, rows_cited, rows_in, rows_of_line};
 ghost use Rattle.evidence_report.specs.code.Counts.{is_some_fail};
-ghost use Rattle.evidence_report.specs.code.Leads.{current_ref};
+ghost use Rattle.evidence_report.specs.code.Leads.{AreGrounded, current_ref};
 
 use evidence_lines::{LineList, Outcome, Rows};
-use evidence_lookups::line_context::LineContext;
 use evidence_lookups::lookup::value_of;
 use guard_syntax::{Conds, Origin, Ref, Verdict};
 
@@ -77,14 +75,12 @@ pub(crate) fn behind_conds<'c>(conditions: &Option<Conds>, cites: &'c [u64]) -> 
 }
 
 /// The value of a frame, and the root of the template where there is none.
-pub(crate) fn current_ref(context: &LineContext<'_, '_, '_>, frame: Option<u64>) -> Ref
-    ensures value { result ≡ current_ref (known_of context.now) (lines_of context.now) frame }
-    ensures known { is_known_ref (known_of context.now) result ≡ true }
+pub(crate) fn current_ref(lines: &LineList<'_>, frame: Option<u64>) -> Ref
+    ensures value { (known : StoreModel) → result ≡ current_ref known lines.now frame }
+    ensures known { (known : StoreModel) → AreGrounded known lines.now → is_known_ref known result ≡ true }
 {
-    // A tree has a root, as `len` says.
-    let _nodes = context.store.doc.len();
     match frame {
-        Some(frame) => value_or_root(&context.lines, frame),
+        Some(frame) => value_or_root(lines, frame),
         None => root(),
     }
 }

@@ -5,16 +5,12 @@ ghost use Rattle.std.specs.List.{flat_map};
 ghost use Rattle.evidence_lines.specs.declared.line.Line.{Line};
 ghost use Rattle.evidence_lookups.specs.code.Grounds.{known_of, lines_of};
 ghost use Rattle.evidence_truth.specs.code.LineFails.{line_fails};
-ghost use Rattle.rule_meaning.specs.FunctionMeaning.{IsAnswering};
-ghost use Rattle.rule_meaning.specs.Locations.{Answers};
-ghost use Rattle.rule_meaning.specs.Seeing.{call_at, world_of};
+ghost use Rattle.rule_meaning.specs.Seeing.{call_at};
 ghost use Rattle.rule_meaning.specs.StoreModel.{StoreModel};
 ghost use Rattle.evidence_report.specs.code.Counts.{AreCounts, count_of, counted};
 ghost use Rattle.evidence_report.specs.code.Leads.{AreBelow, CitesFall, IsBelow, entries_behind, see_lead};
-ghost use Rattle.evidence_report.specs.code.RuleEntries.{AreHeldLines, AreTold};
 
 use crate::cited::is_failing;
-use crate::laws::rules_told;
 use crate::lead::Lead;
 use crate::leads::leads_of;
 use evidence_lookups::line_context::LineContext;
@@ -23,18 +19,6 @@ use std::alloc::{AllocError, Global};
 /// How many entries each line fails by that says FAIL, in the order of the lines, a count standing still at the last of 64
 /// bits; of other lines the count is 0. Lines that are led to often are counted once, so entries may be many where lines are
 /// few.
-pub fn fail_counts(alloc: Global, context: &LineContext<'_, '_, '_>) -> Result<Vec<u64>, AllocError>
-    requires { AreHeldLines context.now.version (known_of context.now) (lines_of context.now) }
-    ensures all { IfOk result (λ counts. length counts.items ≡ length (lines_of context.now)) }
-    ensures counts { IfOk result (λ counts. AreCounts (known_of context.now) (lines_of context.now) counts.items) }
-    ensures meaning { (answers : Answers) → IsAnswering (world_of (known_of context.now) answers)
-        → AreTold (world_of (known_of context.now) answers) (known_of context.now) (lines_of context.now) }
-{
-    rules_told();
-    count_lines(alloc, context)
-}
-
-/// The counts of all lines.
 pub(crate) fn count_lines(
     alloc: Global,
     context: &LineContext<'_, '_, '_>,

@@ -13,11 +13,12 @@ ghost use Rattle.evidence_report.specs.code.RuleEntries.{IsAccepted};
 ghost use Rattle.evidence_report.specs.code.VerdictLines.{heading, verdicts_in};
 ghost use Rattle.evidence_report.specs.code.Written.{Takes, TakesFront};
 
-use crate::report::{count_entries, put};
+use crate::report::count_entries;
 use crate::tally::total_line;
 use crate::verdict_lines::{VerdictLine, verdict_lines};
 use evidence_lookups::line_context::LineContext;
 use guard_io::Sink;
+use report_text::put::put;
 use report_text::{ReportFault, push_rule_line};
 use std::alloc::{AllocError, Global};
 
@@ -56,7 +57,7 @@ fn drill_text(
     ensures { (answers : Answers) (texts : Texts) → IsAnswering (world_of (known_of context.now) answers)
         → IfOk result (λ text. text.items ≡ drill_report count (world_of (known_of context.now) answers) texts) }
 {
-    let all = verdict_lines(alloc, context, context.store.file.raw())?;
+    let all = verdict_lines(alloc, context)?;
     let entries = count_entries(alloc, context, &all)?;
     text_of(alloc, count, entries, &all)
 }
@@ -72,11 +73,19 @@ fn text_of(
         ++ (codes "fails " ++ decimal entries ++ codes "\n") ++ reports.total_line (verdicts_in all.now)) }
 {
     let mut text = Vec::new(alloc);
-    text.extend_from_slice(format!(in alloc; "drill {count}\n")?.as_bytes())?;
+    push_count(alloc, &mut text, "drill", count as u64)?;
     push_headings(&mut text, all)?;
-    text.extend_from_slice(format!(in alloc; "fails {entries}\n")?.as_bytes())?;
+    push_count(alloc, &mut text, "fails", entries)?;
     text.extend_from_slice(total_line(alloc, all)?.as_bytes())?;
     Ok(text)
+}
+
+/// Appends a line that says how many there are of something.
+fn push_count(alloc: Global, text: &mut Vec<u8>, word: &str, count: u64) -> Result<(), AllocError>
+    ensures { OnOk result (text.new.items ≡ text.old.items ++ (word.now ++ codes " " ++ decimal count ++ codes "\n")) }
+{
+    text.extend_from_slice(format!(in alloc; "{word} {count}\n")?.as_bytes())?;
+    Ok(())
 }
 
 /// Appends the line of each verdict.

@@ -9,21 +9,24 @@ ghost use Rattle.guard_syntax.specs.declared.row.Row.{Row};
 ghost use Rattle.guard_syntax.specs.declared.row.Row.TheVariants.{Found};
 ghost use Rattle.rule_meaning.specs.Keys.{passes};
 ghost use Rattle.rule_meaning.specs.SetTests as asked;
-ghost use Rattle.rule_meaning.specs.StoreModel.{is_known};
+ghost use Rattle.rule_meaning.specs.StoreModel.{StoreModel, is_known};
 ghost use Rattle.evidence_lookups.specs.code.Grounds.{known_of, lines_of};
 ghost use Rattle.evidence_truth.specs.code.LineFails.{test_entries};
-ghost use Rattle.evidence_report.specs.code.Leads.{Appends, IsShown, block_leads, call_leads, cite_leads, cites_behind, line_leads, own, part_leads, row_leads, rows_leads, see_lead};
+ghost use Rattle.evidence_report.specs.code.Leads.{Appends, AreGrounded, IsShown, block_leads, call_leads, cite_leads, cites_behind, line_leads, own, part_leads, row_leads, rows_leads, see_lead};
 
 use crate::cited::{behind_conds, current_ref, is_failing, rows_cited, rows_of_line};
 use crate::lead::Lead;
-use crate::rows::{SitedTest, push_first_missing, push_found, push_missing, push_test, push_value};
-use evidence_lines::Line;
+use crate::rows::{
+    SitedTest, push_each_failed, push_first_missing, push_found, push_missing, push_value,
+};
+use evidence_lines::{Line, LineList};
 use evidence_lookups::line_context::LineContext;
 use evidence_lookups::lookup::line_of;
 use guard_syntax::{Op, Part, Query, Row, Step, StepForm};
 use report_text::Word;
 use rule_names::Piece;
 use std::alloc::{AllocError, Global};
+use value_compare::Matchers;
 
 /// A test of each left row, by the site of its part.
 #[derive(Clone, Copy)]
@@ -61,10 +64,10 @@ fn push_line(
         (line_leads (known_of context.now) (lines_of context.now) (Some line.now))) }
 {
     match line.site {
-        None => push_cites(context, line.cites.as_slice(), into),
+        None => push_cites(&context.lines, line.cites.as_slice(), into),
         Some(site) => match context.find(site) {
             Some(Piece::Part(part)) => push_part(alloc, context, part, line, into),
-            _ => push_cites(context, line.cites.as_slice(), into),
+            _ => push_cites(&context.lines, line.cites.as_slice(), into),
         },
     }
 }
@@ -80,12 +83,15 @@ fn push_part(
     ensures { OnOk result (Appends (known_of context.now) into.old.items into.new.items
         (part_leads (known_of context.now) (lines_of context.now) (see_part part.now) line.now.frame line.now.cites)) }
 {
+    // A tree has a root, as `len` says.
+    let _nodes = context.store.doc.len();
+    let lines = &context.lines;
     let cites = line.cites.as_slice();
     match part {
-        Part::Block { site, .. } => push_block(context, *site, cites, into),
-        Part::When { .. } => push_cites(context, cites, into),
+        Part::Block { site, .. } => push_block(alloc, lines, *site, cites, into),
+        Part::When { .. } => push_cites(lines, cites, into),
         Part::Kinds { site, cond, .. } => {
-            push_block(context, *site, behind_conds(cond, cites), into)
+            push_block(alloc, lines, *site, behind_conds(cond, cites), into)
         }
         Part::Test {
             site,
@@ -95,7 +101,7 @@ fn push_part(
             ..
         } => {
             if is_set_test(*op, left) {
-                push_set(context, *site, *not, line, into)
+                push_set(alloc, lines, *site, *not, line, into)
             } else {
                 let test = PartTest {
                     part: *site,
@@ -106,10 +112,10 @@ fn push_part(
             }
         }
         Part::Refer { site, .. } => {
-            let current = current_ref(context, line.frame);
-            push_value(context, *site, Word::Rule, current, into)
+            let current = current_ref(lines, line.frame);
+            push_value(lines, *site, Word::Rule, current, into)
         }
-        Part::Call { site, not, .. } => push_call(context, *site, *not, line, into),
+        Part::Call { site, not, .. } => push_call(lines, *site, *not, line, into),
     }
 }
 
@@ -132,75 +138,69 @@ fn push_rows_test(
         not: test.not,
         rights: rights.as_slice(),
     };
-    push_test(alloc, context, &rows, lefts.as_slice(), into)
+    let mut matchers = Matchers::new(alloc, context.book);
+    push_each_failed(&mut matchers, context, &rows, lefts.as_slice(), into)
 }
 
 /// Appends the entries of a test of a whole set: `empty` shows each row that was found, `!empty` the first row at which
 /// nothing was found, or the current value where there is none.
 fn push_set(
-    context: &LineContext<'_, '_, '_>,
+    alloc: Global,
+    lines: &LineList<'_>,
     part: u32,
     not: bool,
     line: &Line<'_>,
     into: &mut Vec<Lead>,
 ) -> Result<(), AllocError>
-    ensures { (holds : List Row → Row → Bool) → OnOk result (Appends (known_of context.now) into.old.items into.new.items
-        (own (test_entries (known_of context.now) (lines_of context.now) part true not holds line.now.frame line.now.cites))) }
+    ensures { (known : StoreModel) → AreGrounded known lines.now → (holds : List Row → Row → Bool) → OnOk result (Appends known into.old.items into.new.items
+        (own (test_entries known lines.now part true not holds line.now.frame line.now.cites))) }
 {
-    let cited = rows_cited(&context.lines, line.cites.as_slice(), 0).gather(context.alloc)?;
+    let cited = rows_cited(lines, line.cites.as_slice(), 0).gather(alloc)?;
     let rows = cited.as_slice();
     if not {
-        let current = current_ref(context, line.frame);
-        push_first_missing(context, part, current, rows, into)
+        let current = current_ref(lines, line.frame);
+        push_first_missing(lines, part, current, rows, into)
     } else {
-        push_found(context, part, rows, into)
+        push_found(lines, part, rows, into)
     }
 }
 
 /// Appends the entry of a negated call, or what the called body fails by.
 fn push_call(
-    context: &LineContext<'_, '_, '_>,
+    lines: &LineList<'_>,
     part: u32,
     not: bool,
     line: &Line<'_>,
     into: &mut Vec<Lead>,
 ) -> Result<(), AllocError>
-    ensures { OnOk result (Appends (known_of context.now) into.old.items into.new.items
-        (call_leads (known_of context.now) (lines_of context.now) part not line.now.frame line.now.cites)) }
+    ensures { (known : StoreModel) → AreGrounded known lines.now → OnOk result (Appends known into.old.items into.new.items
+        (call_leads known lines.now part not line.now.frame line.now.cites)) }
 {
     if not {
-        let current = current_ref(context, line.frame);
-        push_value(context, part, Word::Call, current, into)
+        let current = current_ref(lines, line.frame);
+        push_value(lines, part, Word::Call, current, into)
     } else {
-        push_cites(context, line.cites.as_slice(), into)
+        push_cites(lines, line.cites.as_slice(), into)
     }
 }
 
 /// Appends the lines that say FAIL among cites.
-fn push_cites(
-    context: &LineContext<'_, '_, '_>,
-    cites: &[u64],
-    into: &mut Vec<Lead>,
-) -> Result<(), AllocError>
-    ensures { OnOk result (Appends (known_of context.now) into.old.items into.new.items
-        (flat_map (cite_leads (known_of context.now) (lines_of context.now)) cites.now)) }
+fn push_cites(lines: &LineList<'_>, cites: &[u64], into: &mut Vec<Lead>) -> Result<(), AllocError>
+    ensures { (known : StoreModel) → OnOk result (Appends known into.old.items into.new.items
+        (flat_map (cite_leads known lines.now) cites.now)) }
 {
     for cite in cites {
-        push_cite(context, *cite, into)?;
+        push_cite(lines, *cite, into)?;
     }
     Ok(())
 }
 
 /// Appends a line, where it says FAIL.
-fn push_cite(
-    context: &LineContext<'_, '_, '_>,
-    cite: u64,
-    into: &mut Vec<Lead>,
-) -> Result<(), AllocError>
-    ensures { OnOk result (Appends (known_of context.now) into.old.items into.new.items
-        (cite_leads (known_of context.now) (lines_of context.now) cite)) }
+fn push_cite(lines: &LineList<'_>, cite: u64, into: &mut Vec<Lead>) -> Result<(), AllocError>
+    ensures { (known : StoreModel) → OnOk result (Appends known into.old.items into.new.items
+        (cite_leads known lines.now cite)) }
 {
-    if is_failing(&context.lines, cite) {
+    if is_failing(lines, cite) {
         into.push(Lead::Line(cite))?;
     }
     Ok(())
@@ -208,76 +208,76 @@ fn push_cite(
 
 /// Appends what a block leads to: the first line cited gives its rows.
 fn push_block(
-    context: &LineContext<'_, '_, '_>,
+    alloc: Global,
+    lines: &LineList<'_>,
     part: u32,
     cites: &[u64],
     into: &mut Vec<Lead>,
 ) -> Result<(), AllocError>
-    ensures { OnOk result (Appends (known_of context.now) into.old.items into.new.items
-        (block_leads (known_of context.now) (lines_of context.now) part cites.now)) }
+    ensures { (known : StoreModel) → AreGrounded known lines.now → OnOk result (Appends known into.old.items into.new.items
+        (block_leads known lines.now part cites.now)) }
 {
     match cites {
         [] => Ok(()),
-        [head, bodies @ ..] => push_bodies(context, part, *head, bodies, into),
+        [head, bodies @ ..] => push_bodies(alloc, lines, part, *head, bodies, into),
     }
 }
 
 /// Appends what a block leads to, by the line that gives its rows and the lines behind.
 fn push_bodies(
-    context: &LineContext<'_, '_, '_>,
+    alloc: Global,
+    lines: &LineList<'_>,
     part: u32,
     head: u64,
     bodies: &[u64],
     into: &mut Vec<Lead>,
 ) -> Result<(), AllocError>
-    ensures { OnOk result (Appends (known_of context.now) into.old.items into.new.items
-        (block_leads (known_of context.now) (lines_of context.now) part (head ∷ bodies.now))) }
+    ensures { (known : StoreModel) → AreGrounded known lines.now → OnOk result (Appends known into.old.items into.new.items
+        (block_leads known lines.now part (head ∷ bodies.now))) }
 {
-    let rows = rows_of_line(&context.lines, head).gather(context.alloc)?;
-    push_rows(context, part, rows.as_slice(), bodies, into)
+    let rows = rows_of_line(lines, head).gather(alloc)?;
+    push_rows(lines, part, rows.as_slice(), bodies, into)
 }
 
 /// Appends what the rows of a block lead to, rows and cites in step: a row at which nothing was found is an entry itself, one
 /// that was found takes a cite.
 fn push_rows(
-    context: &LineContext<'_, '_, '_>,
+    lines: &LineList<'_>,
     part: u32,
     rows: &[Row],
     cites: &[u64],
     into: &mut Vec<Lead>,
 ) -> Result<(), AllocError>
-    requires { list_all (is_known (known_of context.now)) rows.now ≡ true }
-    ensures { OnOk result (Appends (known_of context.now) into.old.items into.new.items
-        (rows_leads (known_of context.now) (lines_of context.now) part rows.now cites.now)) }
+    ensures { (known : StoreModel) → list_all (is_known known) rows.now ≡ true → OnOk result (Appends known into.old.items into.new.items
+        (rows_leads known lines.now part rows.now cites.now)) }
 {
     let mut left = cites;
     for row in rows {
-        left = push_row(context, part, row, left, into)?;
+        left = push_row(lines, part, row, left, into)?;
     }
     Ok(())
 }
 
 /// Appends what a row of a block leads to, and gives the cites behind its own.
 fn push_row<'c>(
-    context: &LineContext<'_, '_, '_>,
+    lines: &LineList<'_>,
     part: u32,
     row: &Row,
     cites: &'c [u64],
     into: &mut Vec<Lead>,
 ) -> Result<&'c [u64], AllocError>
-    requires { is_known (known_of context.now) row.now ≡ true }
-    ensures leads { OnOk result (Appends (known_of context.now) into.old.items into.new.items
-        (row_leads (known_of context.now) (lines_of context.now) part row.now cites.entry.now)) }
-    ensures left { IfOk result (λ left. left.now ≡ cites_behind (known_of context.now) (lines_of context.now) row.now cites.entry.now) }
+    ensures leads { (known : StoreModel) → is_known known row.now ≡ true → OnOk result (Appends known into.old.items into.new.items
+        (row_leads known lines.now part row.now cites.entry.now)) }
+    ensures left { (known : StoreModel) → IfOk result (λ left. left.now ≡ cites_behind known lines.now row.now cites.entry.now) }
 {
     match row {
-        Row::Found(_) => push_found_row(context, cites, into),
+        Row::Found(_) => push_found_row(lines, cites, into),
         Row::Missing { .. } => {
-            push_missing(context, part, row, into)?;
+            push_missing(lines, part, row, into)?;
             Ok(cites)
         }
         Row::Unmade { .. } => {
-            push_missing(context, part, row, into)?;
+            push_missing(lines, part, row, into)?;
             Ok(cites)
         }
     }
@@ -285,18 +285,18 @@ fn push_row<'c>(
 
 /// Appends the body at a row that was found, where it says FAIL, and gives the cites behind.
 fn push_found_row<'c>(
-    context: &LineContext<'_, '_, '_>,
+    lines: &LineList<'_>,
     cites: &'c [u64],
     into: &mut Vec<Lead>,
 ) -> Result<&'c [u64], AllocError>
-    ensures leads { (part : ℕ) (v : Ref) → OnOk result (Appends (known_of context.now) into.old.items into.new.items
-        (row_leads (known_of context.now) (lines_of context.now) part (Found v) cites.entry.now)) }
-    ensures left { (v : Ref) → IfOk result (λ left. left.now ≡ cites_behind (known_of context.now) (lines_of context.now) (Found v) cites.entry.now) }
+    ensures leads { (known : StoreModel) (part : ℕ) (v : Ref) → OnOk result (Appends known into.old.items into.new.items
+        (row_leads known lines.now part (Found v) cites.entry.now)) }
+    ensures left { (known : StoreModel) (v : Ref) → IfOk result (λ left. left.now ≡ cites_behind known lines.now (Found v) cites.entry.now) }
 {
     match cites {
         [] => Ok(cites),
         [first, rest @ ..] => {
-            push_cite(context, *first, into)?;
+            push_cite(lines, *first, into)?;
             Ok(rest)
         }
     }

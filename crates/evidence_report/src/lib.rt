@@ -1,13 +1,12 @@
-//! The report on a template, and what rules fail by, from evidence that was accepted: verdicts are those of `rule` lines, the
-//! cites of lines that say FAIL are followed, and no rule is evaluated. The crate stands on the law that lines tell entries
+//! The report on a template from evidence that was accepted: verdicts are those of `rule` lines, the cites of lines that say
+//! FAIL are followed, and no rule is evaluated. The crate stands on the law that lines tell entries
 //! (`evidence_truth`), on the look-ups of lines, on `report_text`, which writes what it is given, and on the definition of the
 //! report (`guard_ends`); of evaluators it knows nothing.
 #![tactic(auto)]
 
 mod cited;
-pub mod count;
+mod count;
 pub mod drill;
-pub mod fails;
 mod laws;
 mod lead;
 mod leads;
@@ -19,8 +18,6 @@ mod tally;
 pub mod verdict_lines;
 mod write;
 
-pub use count::fail_counts;
 pub use drill::write_drill;
-pub use fails::write_fails;
-pub use report::{count_fails, write_report};
+pub use report::write_report;
 pub use verdict_lines::verdicts_told;

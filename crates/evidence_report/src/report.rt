@@ -18,15 +18,16 @@ ghost use Rattle.evidence_report.specs.code.Leads.{CitesFall};
 ghost use Rattle.evidence_report.specs.code.RuleEntries.{IsAccepted};
 ghost use Rattle.evidence_report.specs.code.RuleTables.{IsRuleLine};
 ghost use Rattle.evidence_report.specs.code.VerdictLines.{AreSaid, see_verdict, verdicts_in};
-ghost use Rattle.evidence_report.specs.code.Written.{Takes, TakesFront};
+ghost use Rattle.evidence_report.specs.code.Written.{Takes, TakesFront, Writes};
 
 use crate::count::{count_at, count_lines};
 use crate::tally::total_line;
 use crate::verdict_lines::{VerdictLine, verdict_lines};
 use crate::write::write_line;
 use evidence_lookups::line_context::LineContext;
-use guard_io::{Sink, SinkFault};
+use guard_io::Sink;
 use guard_syntax::Verdict;
+use report_text::put::put;
 use report_text::{LinedTexts, ReportFault, push_rule_line};
 use std::alloc::{AllocError, Global};
 
@@ -51,7 +52,7 @@ pub fn write_report<S: Sink>(
     ensures failed { IsErrOf result ReportFault.Failed → FaultCounted (S.faults sink.old) (S.faults sink.new) }
     ensures kept { S.faults sink.old ≤ S.faults sink.new }
 {
-    let Ok(all) = verdict_lines(alloc, context, context.store.file.raw()) else {
+    let Ok(all) = verdict_lines(alloc, context) else {
         return Err(ReportFault::Memory);
     };
     let Ok(entries) = count_entries(alloc, context, &all) else {
@@ -60,17 +61,6 @@ pub fn write_report<S: Sink>(
     write_verdicts(alloc, context, texts, &all, sink)?;
     write_total(alloc, &all, sink)?;
     Ok(entries)
-}
-
-/// How many entries there are in the report on a template by evidence that was accepted, up to the most that 64 bits hold. The
-/// store holds the trees of the lines' calls.
-pub fn count_fails(alloc: Global, context: &LineContext<'_, '_, '_>) -> Result<u64, AllocError>
-    requires { IsAccepted context.now.version (known_of context.now) (lines_of context.now) }
-    ensures { (answers : Answers) → IsAnswering (world_of (known_of context.now) answers)
-        → IfOk result (λ n. n ≡ fail_count (reported (world_of (known_of context.now) answers))) }
-{
-    let all = verdict_lines(alloc, context, context.store.file.raw())?;
-    count_entries(alloc, context, &all)
 }
 
 /// How many entries stand under all verdicts.
@@ -120,13 +110,8 @@ fn write_verdicts<S: Sink>(
     sink: &mut S,
 ) -> Result<(), ReportFault>
     requires { CitesFall (lines_of context.now) }
-    ensures ok { OnOk result (Takes (S.told sink.old) (flat_map (reports.lines_of (known_of context.now).file (known_of context.now).template (see_lined texts.now))
-        (map (see_verdict (known_of context.now) (lines_of context.now)) all.now)) (S.told sink.new)) }
-    ensures err { OnErr result (TakesFront (S.told sink.old) (flat_map (reports.lines_of (known_of context.now).file (known_of context.now).template (see_lined texts.now))
-        (map (see_verdict (known_of context.now) (lines_of context.now)) all.now)) (S.told sink.new)) }
-    ensures tells { IsSome (S.told sink.old) → IsSome (S.told sink.new) }
-    ensures failed { IsErrOf result ReportFault.Failed → FaultCounted (S.faults sink.old) (S.faults sink.new) }
-    ensures kept { S.faults sink.old ≤ S.faults sink.new }
+    ensures { Writes (S.told sink.old) (S.told sink.new) (S.faults sink.old) (S.faults sink.new)
+        (flat_map (reports.lines_of (known_of context.now).file (known_of context.now).template (see_lined texts.now)) (map (see_verdict (known_of context.now) (lines_of context.now)) all.now)) result }
 {
     for listed in all {
         write_verdict(alloc, context, texts, listed, sink)?;
@@ -143,13 +128,8 @@ fn write_verdict<S: Sink>(
     sink: &mut S,
 ) -> Result<(), ReportFault>
     requires { CitesFall (lines_of context.now) }
-    ensures ok { OnOk result (Takes (S.told sink.old) (reports.lines_of (known_of context.now).file (known_of context.now).template (see_lined texts.now)
-        (see_verdict (known_of context.now) (lines_of context.now) listed.now)) (S.told sink.new)) }
-    ensures err { OnErr result (TakesFront (S.told sink.old) (reports.lines_of (known_of context.now).file (known_of context.now).template (see_lined texts.now)
-        (see_verdict (known_of context.now) (lines_of context.now) listed.now)) (S.told sink.new)) }
-    ensures tells { IsSome (S.told sink.old) → IsSome (S.told sink.new) }
-    ensures failed { IsErrOf result ReportFault.Failed → FaultCounted (S.faults sink.old) (S.faults sink.new) }
-    ensures kept { S.faults sink.old ≤ S.faults sink.new }
+    ensures { Writes (S.told sink.old) (S.told sink.new) (S.faults sink.old) (S.faults sink.new)
+        (reports.lines_of (known_of context.now).file (known_of context.now).template (see_lined texts.now) (see_verdict (known_of context.now) (lines_of context.now) listed.now)) result }
 {
     write_heading(alloc, listed, sink)?;
     match listed.line.verdict {
@@ -165,11 +145,7 @@ fn write_heading<S: Sink>(
     listed: &VerdictLine<'_>,
     sink: &mut S,
 ) -> Result<(), ReportFault>
-    ensures ok { OnOk result (Takes (S.told sink.old) (rule_line listed.now.name.now listed.now.line.verdict) (S.told sink.new)) }
-    ensures err { OnErr result (TakesFront (S.told sink.old) (rule_line listed.now.name.now listed.now.line.verdict) (S.told sink.new)) }
-    ensures tells { IsSome (S.told sink.old) → IsSome (S.told sink.new) }
-    ensures failed { IsErrOf result ReportFault.Failed → FaultCounted (S.faults sink.old) (S.faults sink.new) }
-    ensures kept { S.faults sink.old ≤ S.faults sink.new }
+    ensures { Writes (S.told sink.old) (S.told sink.new) (S.faults sink.old) (S.faults sink.new) (rule_line listed.now.name.now listed.now.line.verdict) result }
 {
     let mut line = Vec::new(alloc);
     match push_rule_line(&mut line, listed.name, listed.line.verdict) {
@@ -184,29 +160,10 @@ fn write_total<S: Sink>(
     all: &[VerdictLine<'_>],
     sink: &mut S,
 ) -> Result<(), ReportFault>
-    ensures ok { OnOk result (Takes (S.told sink.old) (reports.total_line (verdicts_in all.now)) (S.told sink.new)) }
-    ensures err { OnErr result (TakesFront (S.told sink.old) (reports.total_line (verdicts_in all.now)) (S.told sink.new)) }
-    ensures tells { IsSome (S.told sink.old) → IsSome (S.told sink.new) }
-    ensures failed { IsErrOf result ReportFault.Failed → FaultCounted (S.faults sink.old) (S.faults sink.new) }
-    ensures kept { S.faults sink.old ≤ S.faults sink.new }
+    ensures { Writes (S.told sink.old) (S.told sink.new) (S.faults sink.old) (S.faults sink.new) (reports.total_line (verdicts_in all.now)) result }
 {
     match total_line(alloc, all) {
         Ok(line) => put(line.as_bytes(), sink),
         Err(_) => Err(ReportFault::Memory),
-    }
-}
-
-/// Writes a text, or a front of it and an error.
-pub(crate) fn put<S: Sink>(text: &[u8], sink: &mut S) -> Result<(), ReportFault>
-    ensures ok { OnOk result (Takes (S.told sink.old) text.now (S.told sink.new)) }
-    ensures err { OnErr result (TakesFront (S.told sink.old) text.now (S.told sink.new)) }
-    ensures tells { IsSome (S.told sink.old) → IsSome (S.told sink.new) }
-    ensures failed { IsErrOf result ReportFault.Failed → FaultCounted (S.faults sink.old) (S.faults sink.new) }
-    ensures kept { S.faults sink.old ≤ S.faults sink.new }
-{
-    match sink.put(text) {
-        Ok(()) => Ok(()),
-        Err(SinkFault::Failed) => Err(ReportFault::Failed),
-        Err(SinkFault::Memory) => Err(ReportFault::Memory),
     }
 }

@@ -1,11 +1,9 @@
 //! The `rule` lines of evidence, by their sites.
 ghost use Rattle.std.specs.Prelude.{◌≡◌, None, IfOk, length, slice_index_or};
-ghost use Rattle.evidence_lookups.specs.code.Grounds.{file_in, lines_of};
 ghost use Rattle.evidence_report.specs.code.RuleTables.{AreRuleLines, rule_line, ruled_by, ruled_site, with_line};
 
 use evidence_lines::{Line, LineKind, LineList, Outcome};
 use evidence_lookups::judged::is_rule_line;
-use evidence_lookups::line_context::LineContext;
 use evidence_lookups::lookup::line_of;
 use guard_syntax::Verdict;
 use std::alloc::{AllocError, Global};
@@ -18,18 +16,18 @@ pub(crate) struct RuleLine {
     pub verdict: Verdict,
 }
 
-/// The `rule` lines by their sites; none where a site has none.
+/// The `rule` lines by their sites, of which there are so many; none where a site has none.
 pub(crate) fn rule_lines(
     alloc: Global,
-    context: &LineContext<'_, '_, '_>,
+    lines: &LineList<'_>,
+    sites: usize,
 ) -> Result<Vec<Option<RuleLine>>, AllocError>
-    ensures lines { IfOk result (λ table. AreRuleLines (lines_of context.now) table.items) }
-    ensures sites { IfOk result (λ table. length table.items ≡ length (file_in context.now).places) }
+    ensures lines { IfOk result (λ table. AreRuleLines lines.now table.items) }
+    ensures sites { IfOk result (λ table. length table.items ≡ sites) }
 {
-    let sites = context.store.file.raw().places.as_slice().len();
     let mut table = vec![in alloc; None; sites]?;
-    for before in 0..context.lines.len() {
-        note(&mut table, rule_line(&context.lines, before + 1));
+    for before in 0..lines.len() {
+        note(&mut table, rule_line(lines, before + 1));
     }
     Ok(table)
 }

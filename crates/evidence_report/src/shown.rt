@@ -4,27 +4,24 @@ ghost use Rattle.std.specs.Option.{option_map_or};
 ghost use Rattle.evidence_lines.specs.Lines.{line_of};
 ghost use Rattle.evidence_lines.specs.declared.line.Line.{Line};
 ghost use Rattle.rule_meaning.specs.Fails as fails;
-ghost use Rattle.rule_meaning.specs.StoreModel.{is_known_ref};
+ghost use Rattle.rule_meaning.specs.StoreModel.{StoreModel, is_known_ref};
 ghost use Rattle.report_text.specs.code.SeenEntries.{IsShowable, see_shown};
 ghost use Rattle.evidence_rules.specs.code.Judgement.{location_said};
-ghost use Rattle.evidence_lookups.specs.code.Grounds.{known_of, lines_of};
 
 use evidence_lines::LineList;
-use evidence_lookups::line_context::LineContext;
 use guard_syntax::{Origin, Ref};
 use report_text::Shown;
 
 /// A value as it is shown: what a call made under the site of the call, which is that of the line that made it.
-pub(crate) fn shown(context: &LineContext<'_, '_, '_>, value: Ref) -> Shown
-    requires { is_known_ref (known_of context.now) value ≡ true }
-    ensures seen { see_shown (known_of context.now) result ≡ fails.OfValue (location_said (known_of context.now) (lines_of context.now) value) }
-    ensures showable { IsShowable (known_of context.now) result }
+pub(crate) fn shown(lines: &LineList<'_>, value: Ref) -> Shown
+    ensures seen { (known : StoreModel) → see_shown known result ≡ fails.OfValue (location_said known lines.now value) }
+    ensures showable { (known : StoreModel) → is_known_ref known value ≡ true → IsShowable known result }
 {
     match value.origin {
         Origin::Template => Shown::Value(value),
         Origin::Literal(_) => Shown::Value(value),
         Origin::Made { line, .. } => Shown::Made {
-            call: site_of(&context.lines, line),
+            call: site_of(lines, line),
             value,
         },
     }

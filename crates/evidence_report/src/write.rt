@@ -1,11 +1,9 @@
 //! Writing what lines fail by.
-ghost use Rattle.std.specs.Prelude.{◌≡◌, ◌≤◌, IsErrOf, IsSome, OnOk, OnErr};
-ghost use Rattle.guard_io.specs.Outside.{FaultCounted};
 ghost use Rattle.evidence_lookups.specs.code.Grounds.{known_of, lines_of};
 ghost use Rattle.evidence_truth.specs.code.LineFails.{line_fails};
 ghost use Rattle.report_text.specs.code.SeenTexts.{see_lined};
 ghost use Rattle.evidence_report.specs.code.Leads.{CitesFall, IsShown, entries_behind, see_lead};
-ghost use Rattle.evidence_report.specs.code.Written.{Takes, TakesFront, entry_lines};
+ghost use Rattle.evidence_report.specs.code.Written.{Writes, entry_lines};
 
 use crate::lead::Lead;
 use crate::leads::leads_of;
@@ -24,13 +22,8 @@ pub(crate) fn write_line<S: Sink>(
     sink: &mut S,
 ) -> Result<(), ReportFault>
     requires { CitesFall (lines_of context.now) }
-    ensures ok { OnOk result (Takes (S.told sink.old) (entry_lines (known_of context.now) (see_lined texts.now)
-        (line_fails (known_of context.now) (lines_of context.now) number number)) (S.told sink.new)) }
-    ensures err { OnErr result (TakesFront (S.told sink.old) (entry_lines (known_of context.now) (see_lined texts.now)
-        (line_fails (known_of context.now) (lines_of context.now) number number)) (S.told sink.new)) }
-    ensures tells { IsSome (S.told sink.old) → IsSome (S.told sink.new) }
-    ensures failed { IsErrOf result ReportFault.Failed → FaultCounted (S.faults sink.old) (S.faults sink.new) }
-    ensures kept { S.faults sink.old ≤ S.faults sink.new }
+    ensures { Writes (S.told sink.old) (S.told sink.new) (S.faults sink.old) (S.faults sink.new)
+        (entry_lines (known_of context.now) (see_lined texts.now) (line_fails (known_of context.now) (lines_of context.now) number number)) result }
 {
     let Ok(leads) = leads_of(alloc, context, number) else {
         return Err(ReportFault::Memory);
@@ -52,13 +45,9 @@ fn write_lead<S: Sink>(
 ) -> Result<(), ReportFault>
     requires falls { CitesFall (lines_of context.now) }
     requires shown { IsShown (known_of context.now) lead.now }
-    ensures ok { OnOk result (Takes (S.told sink.old) (entry_lines (known_of context.now) (see_lined texts.now)
-        (entries_behind (λ c. line_fails (known_of context.now) (lines_of context.now) c c) (see_lead (known_of context.now) lead.now))) (S.told sink.new)) }
-    ensures err { OnErr result (TakesFront (S.told sink.old) (entry_lines (known_of context.now) (see_lined texts.now)
-        (entries_behind (λ c. line_fails (known_of context.now) (lines_of context.now) c c) (see_lead (known_of context.now) lead.now))) (S.told sink.new)) }
-    ensures tells { IsSome (S.told sink.old) → IsSome (S.told sink.new) }
-    ensures failed { IsErrOf result ReportFault.Failed → FaultCounted (S.faults sink.old) (S.faults sink.new) }
-    ensures kept { S.faults sink.old ≤ S.faults sink.new }
+    ensures { Writes (S.told sink.old) (S.told sink.new) (S.faults sink.old) (S.faults sink.new)
+        (entry_lines (known_of context.now) (see_lined texts.now)
+        (entries_behind (λ c. line_fails (known_of context.now) (lines_of context.now) c c) (see_lead (known_of context.now) lead.now))) result }
 {
     match lead {
         Lead::Entry(entry) => write_entry_over(alloc, texts, context.store, entry, sink),

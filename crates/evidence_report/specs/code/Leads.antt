@@ -13,7 +13,9 @@ use Rattle.rule_meaning.specs.Keys.{passes}
 use Rattle.rule_meaning.specs.Roots.{root_ref}
 use Rattle.rule_meaning.specs.SetTests.{is_empty_test, is_set}
 use Rattle.rule_meaning.specs.StoreModel.{StoreModel}
+use Rattle.doc_values.specs.Tree.{IsTree}
 use Rattle.report_text.specs.code.SeenEntries.{IsShowable, see_entry}
+use Rattle.evidence_lookups.specs.code.Said.{AreSound}
 use Rattle.evidence_rules.specs.CitedLines.{value_of}
 use Rattle.evidence_truth.specs.code.LineFails.{behind_conds, current_in, is_failing, rows_of_line, see, test_entries}
 use Rattle.evidence_report.specs.declared.lead.Lead.{Lead}
@@ -107,6 +109,13 @@ IsShown known (lead.Line number) = Unit {0}
 abbrev pub Appends : StoreModel → (before after : List Lead) → List Leading → Type 0
 Appends known before after more =
     All (IsShown known) before → (map (see_lead known) after ≡ map (see_lead known) before ++ more) × All (IsShown known) after
+
+-- ---- lines that are known
+
+-- what lines say is known, and so is the root, of a template that is a tree
+pub record AreGrounded (known : StoreModel) (lines : List Line) : Type 0 where
+  pub sound : AreSound known lines
+  pub tree : IsTree known.template
 
 -- ---- lines that lead to earlier ones
 

@@ -5,12 +5,15 @@ use Rattle.evidence_lines.specs.declared.line.LineKind.TheVariants as kind
 use Rattle.evidence_lines.specs.declared.line.Outcome.TheVariants as says
 use Rattle.evidence_lines.specs.declared.version.Version.{Version}
 use Rattle.guard_syntax.specs.Syntax.{Rule}
+use Rattle.guard_syntax.specs.declared.row.Verdict.{Verdict}
 use Rattle.guard_syntax.specs.declared.row.Verdict.TheVariants.{Fail}
 use Rattle.rule_meaning.specs.Fails.{Entry, loose_fails, rule_fails}
 use Rattle.rule_meaning.specs.Locations.{World}
+use Rattle.rule_meaning.specs.NameMeaning.{loose_verdict, rule_verdict}
 use Rattle.rule_meaning.specs.StoreModel.{StoreModel}
 use Rattle.evidence_rules.specs.CitedLines.{IsLine}
-use Rattle.evidence_rules.specs.Follows.{Accepts, AllFollow, nothing_made}
+use Rattle.evidence_rules.specs.Follows.{Accepts, nothing_made}
+use Rattle.evidence_rules.specs.RuleLines.{IsSaidOf}
 use Rattle.evidence_rules.specs.code.Judgement.{FollowTo}
 use Rattle.evidence_truth.specs.code.HeldTrees.{HoldsTrees}
 use Rattle.evidence_truth.specs.code.LineFails.{line_fails}
@@ -20,18 +23,13 @@ pub record AreFailsOf (world : World) (lines : List Line) (number : ℕ) (entrie
   pub rule : (r : Rule) (frame : ℕ) → Contains world.file.rules r → IsLine lines number kind.Rule frame r.site (says.Verdict Fail) → entries ≡ rule_fails world r
   pub loose : (frame : ℕ) → IsLine lines number kind.Rule frame 0 (says.Verdict Fail) → entries ≡ loose_fails world world.file.loose
 
--- `rule` lines lead to these entries, whichever of them say FAIL
-abbrev pub AreTold : World → StoreModel → List Line → Type 0
-AreTold world held lines = (number : ℕ) → AreFailsOf world lines number (line_fails held lines number number)
+-- `rule` lines say the verdicts of the rules, and lead to these entries, whichever of them say FAIL
+pub record AreTold (world : World) (held : StoreModel) (lines : List Line) : Type 0 where
+  pub rules : (r : Rule) (verdict : Verdict) → Contains held.file.rules r → IsSaidOf lines r.site verdict → verdict ≡ rule_verdict world r
+  pub loose : (verdict : Verdict) → IsSaidOf lines 0 verdict → verdict ≡ loose_verdict world held.file.loose
+  pub entries : (number : ℕ) → AreFailsOf world lines number (line_fails held lines number number)
 
--- lines that follow over the template and the file of a store, which holds the trees of their last store
-pub record AreHeldLines (version : Version) (held : StoreModel) (lines : List Line) : Type 0 where
-  pub follow : AllFollow version (nothing_made held.template held.file) [] lines
-  pub last : StoreModel
-  pub leads : FollowTo version (nothing_made held.template held.file) [] lines last
-  pub holds : HoldsTrees held last
-
--- so evidence that is accepted: no verdict is wanting either
+-- evidence that is accepted over the template and the file of a store, which holds the trees of the last store of its lines
 pub record IsAccepted (version : Version) (held : StoreModel) (lines : List Line) : Type 0 where
   pub accepts : Accepts version held.template held.file lines
   pub last : StoreModel

@@ -1,7 +1,6 @@
 use Rattle.std.proofs.Common.{◌≡◌, ◌++◌, List, codes, decimal, subst, sym, ◌∙◌, ap}
 use Rattle.std.specs.List.{flat_map}
 use Rattle.std.proofs.lemmas.Result.{IfOk-weaker}
-use Rattle.guard_syntax.specs.code.Seen.{see_file}
 use Rattle.evidence_lookups.specs.code.Grounds.{known_of, lines_of}
 use Rattle.evidence_rules.specs.Follows.{nothing_made}
 use Rattle.rule_meaning.specs.Seeing.{world_of}
@@ -40,6 +39,3 @@ returns c answers texts obey =
     (λ text is. is ∙ drill-told known lines answers c.in_ok-all.all.items (c.in_ok-all.ensures.verdicts answers obey) texts count entries c.deref.result.now c.deref-2.result.now c.deref.ensures.value c.deref-2.ensures.value
     c.in_ok-entries.ensures)
     c.text_of.ensures
-
-pub verdict_lines-requires-clause-file : goal.verdict_lines-requires-clause-file
-verdict_lines-requires-clause-file c = ap see_file (sym c.raw.ensures)

@@ -1,17 +1,14 @@
 use Rattle.std.proofs.Common.{sym, subst, OnOk, IfOk, ◌≡◌}
 use Rattle.guard_syntax.specs.declared.row.Row.{Row}
-use Rattle.evidence_lookups.specs.code.Grounds.{known_of, lines_of}
 use Rattle.evidence_report.specs.code.Leads.{Appends, cites_behind, row_leads}
 use Rattle.evidence_report.proofs.leads.push_row.Goals as goal
 
 pub returns-in-Found-clause-leads : goal.returns-in-Found-clause-leads
-returns-in-Found-clause-leads c =
-    let known = known_of c.args.context.now in
-    subst (λ (r : Row). OnOk c.push_found_row.result (Appends known c.args.into.now.items c.push_found_row.new.into.items (row_leads known (lines_of c.args.context.now) c.args.part r c.args.cites.now)))
-    (sym c.in-Found.is) (c.push_found_row.ensures.leads c.args.part c.in-Found.field-0)
+returns-in-Found-clause-leads c known is =
+    subst (λ (r : Row). OnOk c.push_found_row.result (Appends known c.args.into.now.items c.push_found_row.new.into.items (row_leads known c.args.lines.now c.args.part r c.args.cites.now)))
+    (sym c.in-Found.is) (c.push_found_row.ensures.leads known c.args.part c.in-Found.field-0)
 
 pub returns-in-Found-clause-left : goal.returns-in-Found-clause-left
-returns-in-Found-clause-left c =
-    let known = known_of c.args.context.now in
-    subst (λ (r : Row). IfOk c.push_found_row.result (λ left. left.now ≡ cites_behind known (lines_of c.args.context.now) r c.args.cites.now))
-    (sym c.in-Found.is) (c.push_found_row.ensures.left c.in-Found.field-0)
+returns-in-Found-clause-left c known =
+    subst (λ (r : Row). IfOk c.push_found_row.result (λ left. left.now ≡ cites_behind known c.args.lines.now r c.args.cites.now))
+    (sym c.in-Found.is) (c.push_found_row.ensures.left known c.in-Found.field-0)

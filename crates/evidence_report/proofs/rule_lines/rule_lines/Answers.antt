@@ -1,18 +1,17 @@
 use Rattle.std.proofs.Common.{◌≡◌, ◌∙◌, ap, arith, length, List, Option}
-use Rattle.evidence_lookups.specs.code.Grounds.{file_in, lines_of}
 use Rattle.evidence_report.specs.declared.rule_lines.RuleLine.{RuleLine}
 use Rattle.evidence_report.proofs.RuleTables.{all-noted, table-more, table_upto, upto-length}
 use Rattle.evidence_report.proofs.rule_lines.rule_lines.Goals as goal
 
 pub loop-before-preserved : goal.loop-before-preserved
 loop-before-preserved c =
-    table-more (lines_of c.args.context.now) (length (file_in c.args.context.now).places) c.loop-before.before c.loop-before.table.items c.note.new.table.items c.rule_line.result
+    table-more c.args.lines.now c.args.sites c.loop-before.before c.loop-before.table.items c.note.new.table.items c.rule_line.result
     c.loop-before.invariant c.rule_line.ensures c.note.ensures
 
 pub returns : goal.returns
 returns c =
-    let lines = lines_of c.args.context.now in
-    let sites = length (file_in c.args.context.now).places in
+    let lines = c.args.lines.now in
+    let sites = c.args.sites in
     let past = c.loop-before-test.false in
     let few = c.loop-before.auto.before-end in
     let all : c.loop-before.before ≡ length lines = omega (arith, past, few, c.len-before-end.ensures.count) in

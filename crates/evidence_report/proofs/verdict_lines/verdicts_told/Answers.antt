@@ -1,6 +1,5 @@
 use Rattle.std.proofs.Common.{◌≡◌, ap, ◌∙◌, sym}
 use Rattle.std.proofs.lemmas.Result.{IfOk-weaker}
-use Rattle.guard_syntax.specs.code.Seen.{see_file}
 use Rattle.rule_meaning.specs.Seeing.{world_of}
 use Rattle.evidence_lookups.specs.code.Grounds.{known_of, lines_of}
 use Rattle.guard_ends.specs.Reported.{verdicts_of}
@@ -18,6 +17,3 @@ returns c answers obey =
     IfOk-weaker c.verdicts_alone.result (λ verdicts. verdicts.items ≡ verdicts_in c.deref.result.now) (λ verdicts. verdicts.items ≡ verdicts_of (world_of known answers))
     (λ verdicts is. is ∙ ap verdicts_in c.deref.ensures.value ∙ verdicts-told known (lines_of c.args.context.now) answers c.in_ok-all.all.items (c.in_ok-all.ensures.verdicts answers obey))
     c.verdicts_alone.ensures
-
-pub verdict_lines-requires-clause-file : goal.verdict_lines-requires-clause-file
-verdict_lines-requires-clause-file c = ap see_file (sym c.raw.ensures)
