@@ -26,6 +26,13 @@ store-starts s template file doc_is file_is made_is =
     ∙ ap (λ (f : RuleFile). record { template = template; file = file_of f; made = s.made }) file_is
     ∙ ap (λ (ms : List Made). record { template = template; file = file_of file; made = ms }) made_is
 
+-- one in which literals are kept knows what it did
+pub store-same : (s t : Store) → s.doc.now ≡ t.doc.now → s.file.now ≡ t.file.now → s.made ≡ t.made → see_store s ≡ see_store t
+store-same s t doc_is file_is made_is =
+    ap (λ (d : Forest). record { template = d; file = file_of s.file.now; made = s.made }) doc_is
+    ∙ ap (λ (f : RuleFile). record { template = t.doc.now; file = file_of f; made = s.made }) file_is
+    ∙ ap (λ (ms : List Made). record { template = t.doc.now; file = file_of t.file.now; made = ms }) made_is
+
 -- one that knows of nothing made
 pub starts : (known : StoreModel) → known.made ≡ [] → known ≡ nothing_made known.template known.file
 starts known none = ap (λ (ms : List Made). record { template = known.template; file = known.file; made = ms }) none

@@ -1,5 +1,5 @@
 -- What follows from the line of a call.
-use Rattle.std.proofs.Common.{◌≡◌, ℕ, suc, Bool, true, false, cond, List, [], ◌∷◌, length, map, Option, Some, None, rules, refl, sym, ap, subst, ◌∙◌}
+use Rattle.std.proofs.Common.{◌≡◌, ℕ, suc, Bool, true, false, cond, List, [], ◌∷◌, length, map, Option, Some, None, refl, sym, ap, subst, ◌∙◌}
 use Rattle.std.specs.Prelude.{IfSome, MatchOption, find}
 use Rattle.std.specs.List.{list_all}
 use Rattle.std.specs.Str.{bytes_eq}
@@ -10,12 +10,11 @@ use Rattle.std.proofs.lemmas.Slice.Eq.{bytes_eq-Decides}
 use Rattle.std.proofs.lemmas.Option.{MatchOption-at_none, MatchOption-at_some, none-some, same_Some}
 use Rattle.evidence_lines.specs.declared.line.Line.{Line}
 use Rattle.evidence_lines.specs.declared.line.LineKind.TheVariants as kind
-use Rattle.guard_builtins.specs.code.Seen.{see_made, see_rows}
-use Rattle.guard_builtins.specs.declared.made.Made as types
+use Rattle.guard_builtins.specs.code.Seen.{see_rows}
 use Rattle.guard_syntax.specs.Functions.{IsNamed, name_of}
 use Rattle.guard_syntax.specs.code.Seen.{expr_list, see_expr}
 use Rattle.guard_syntax.specs.Syntax as sx
-use Rattle.guard_syntax.specs.declared.syntax.Expr.{Expr, the_lemmas}
+use Rattle.guard_syntax.specs.declared.syntax.Expr.{Expr}
 use Rattle.guard_syntax.specs.declared.syntax.Expr as expr
 use Rattle.guard_syntax.specs.declared.function.Function.{Function}
 use Rattle.guard_syntax.specs.declared.function.Function.TheVariants.{RegexReplace}
@@ -26,6 +25,7 @@ use Rattle.rule_names.specs.Uses.{arity, function_named, functions}
 use Rattle.rule_names.specs.code.Within.{StandsIn}
 use Rattle.rule_names.proofs.Arguments.{named-none}
 use Rattle.rule_names.proofs.PiecesStand.{piece-stands}
+use Rattle.rule_names.proofs.Shapes.{function-seen}
 use Rattle.value_compare.specs.code.Books.{IsBookOf, has_text}
 use Rattle.rule_meaning.specs.Functions.{Functions, MadeRow, argument, single_text}
 use Rattle.rule_meaning.specs.StoreModel.{StoreModel, Made, is_known}
@@ -71,9 +71,6 @@ pub call-none : {X : Type 0} (e : sx.Expr) (called : X → Function) (args : X �
 call-none {X} e called args r none never =
     subst (λ (o : Option X). MatchOption o ((f : Function) → (es : sx.Exprs) → IsCall e f es → ⊥) (λ x. IsCall e (called x) (args x))) (sym none) never
 
-function-seen : (site : ℕ) (name : List ℕ) (args : Vec Expr Global) → see_expr (expr.Function site name args) ≡ sx.function site name (expr_list (map see_expr args.items))
-function-seen site name args = search (rules, the_lemmas)
-
 module _ (e : Expr) (site : ℕ) (name : List ℕ) (args : Vec Expr Global) (is : e ≡ expr.Function site name args) where
   pub call-unnamed : IsNamed name None → (f : Function) (es : sx.Exprs) → IsCall (see_expr e) f es → ⊥
   call-unnamed none f es call =
@@ -90,6 +87,13 @@ module _ (known : StoreModel) (lines : List Line) (frame site : ℕ) (cites : Li
       args-one known.file lines frame y.args cites x.given y.given (subst (λ (es : sx.Exprs). GiveArgs known.file lines frame es cites x.given) calls.1 x.gives) y.gives in
       answers-same known y.called site y.given a b
       (subst (λ (all : List (List Row)). Functions known y.called site all a) given (subst (λ (f : Function). Functions known f site x.given a) calls.0 x.answers)) y.answers
+
+  -- without rows of its arguments there is none
+  pub unanswered : (f : Function) (es : sx.Exprs) → IsCallAt known.file site f es → ((all : List (List Row)) → GiveArgs known.file lines frame es cites all → ⊥) → (answer : List MadeRow)
+      → IsAnswered known lines frame site cites answer → ⊥
+  unanswered f es stands never answer is =
+      let calls = call-one known.file site is.called f is.args es is.stands stands in
+      never is.given (subst (λ (xs : sx.Exprs). GiveArgs known.file lines frame xs cites is.given) calls.1 is.gives)
 
   -- a line that says the rows of the answer follows, and no other does
   pub call-follows : (rows : List Row) (answer : List MadeRow) → IsAnswered known lines frame site cites answer → rows ≡ rows_kept (suc (length lines)) 0 answer
@@ -154,21 +158,15 @@ module _ (known : StoreModel) (lines : List Line) (frame site : ℕ) (cites : Li
         ap (list_all (is_known (grown known (trees_kept (suc (length lines)) 0 answer)))) says
         ∙ subst (λ (n : ℕ). list_all (is_known (grown known (trees_kept (suc n) 0 answer))) (rows_kept (suc n) 0 answer) ≡ true) counted (kept-known known calls site called answer answer_known)
 
--- ---- what was found of an answer
+-- ---- what was found of the rows of arguments
 
-module _ (known : StoreModel) (lines : List Line) (frame site : ℕ) (cites : List ℕ) (found : Option (Vec types.Made Global))
-    (told : MatchOption found ((answer : List MadeRow) → IsAnswered known lines frame site cites answer → ⊥) (λ answer. IsAnswered known lines frame site cites (map see_made answer.items))) where
-  pub is-answered : (answer : Vec types.Made Global) → found ≡ Some answer → IsAnswered known lines frame site cites (map see_made answer.items)
-  is-answered answer is = MatchOption-at_some _ (λ (a : Vec types.Made Global). IsAnswered known lines frame site cites (map see_made a.items)) answer is told
-
-  pub is-unanswered : found ≡ None → (answer : List MadeRow) → IsAnswered known lines frame site cites answer → ⊥
-  is-unanswered none = MatchOption-at_none ((answer : List MadeRow) → IsAnswered known lines frame site cites answer → ⊥) (λ (a : Vec types.Made Global). IsAnswered known lines frame site cites (map see_made a.items)) none told
-
--- so of the rows of arguments
 module _ (file : sx.File) (lines : List Line) (frame : ℕ) (es : sx.Exprs) (cites : List ℕ) (found : Option (Vec (Vec Row Global) Global))
     (told : MatchOption found ((all : List (List Row)) → GiveArgs file lines frame es cites all → ⊥) (λ all. GiveArgs file lines frame es cites (map see_rows all.items))) where
   pub args-given : (given : Vec (Vec Row Global) Global) → found ≡ Some given → GiveArgs file lines frame es cites (map see_rows given.items)
   args-given given is = MatchOption-at_some _ (λ (all : Vec (Vec Row Global) Global). GiveArgs file lines frame es cites (map see_rows all.items)) given is told
+
+  pub args-missing : found ≡ None → (all : List (List Row)) → GiveArgs file lines frame es cites all → ⊥
+  args-missing none = MatchOption-at_none ((all : List (List Row)) → GiveArgs file lines frame es cites all → ⊥) (λ (all : Vec (Vec Row Global) Global). GiveArgs file lines frame es cites (map see_rows all.items)) none told
 
 -- ---- what a call wants of its arguments
 

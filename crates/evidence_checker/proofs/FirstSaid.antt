@@ -1,5 +1,5 @@
 -- What follows from the first of the lines that a line names and those behind it.
-use Rattle.std.proofs.Common.{◌≡◌, ℕ, List, [], ◌∷◌, Option, None, true, false, Bool, ◌&&◌, if◌then◌else◌, refl, ap, sym, subst, ◌∙◌, MatchBool, rules}
+use Rattle.std.proofs.Common.{◌≡◌, ℕ, List, [], ◌∷◌, Option, None, true, false, Bool, ◌&&◌, if◌then◌else◌, refl, ap, sym, subst, ◌∙◌, MatchBool}
 use Rattle.evidence_lines.specs.declared.line.Line.{Line}
 use Rattle.evidence_lines.specs.declared.line.LineKind.TheVariants as kind
 use Rattle.evidence_lines.specs.declared.line.Outcome.TheVariants as says
@@ -7,8 +7,9 @@ use Rattle.guard_syntax.specs.code.Seen.{see_conds}
 use Rattle.guard_syntax.specs.Syntax as sx
 use Rattle.guard_syntax.specs.declared.row.Row.{Row}
 use Rattle.guard_syntax.specs.declared.row.Verdict.{Verdict}
-use Rattle.guard_syntax.specs.declared.syntax.Conds.{Conds, out-Conds, the_lemmas as conds_lemmas}
+use Rattle.guard_syntax.specs.declared.syntax.Conds.{Conds, out-Conds}
 use Rattle.guard_syntax.specs.declared.syntax.Op.{Op}
+use Rattle.rule_names.proofs.Shapes.{conds-seen}
 use Rattle.rule_meaning.specs.StoreModel.{StoreModel}
 use Rattle.evidence_rules.specs.CitedLines.{GivesQuery, IsLine}
 use Rattle.evidence_rules.specs.Follows.{FollowsBlock, FollowsBody, FollowsRowsOf, FollowsRule, FollowsTest, FollowsTyped, GivesRight, UnderSome, conds_site}
@@ -20,7 +21,7 @@ use Rattle.evidence_checker.proofs.Decided.{decide-given}
 use Rattle.evidence_checker.proofs.SaidOnce.{same-query, same-right, same-rows}
 
 pub conds-site : (cs : Conds) → conds_site (see_conds cs) ≡ (out-Conds cs).site
-conds-site cs = search (rules, conds_lemmas)
+conds-site cs = ap conds_site (conds-seen cs)
 
 module _ (lines : List Line) (frame c : ℕ) (cites left : List ℕ) (first : cites ≡ c ∷ left) where
   pub guard-said : (conditions : sx.Conds) (site : ℕ) (said : Verdict) → site ≡ conds_site conditions → IsLine lines c kind.Conj frame site (says.Verdict said) → IsGuard lines frame conditions cites said left

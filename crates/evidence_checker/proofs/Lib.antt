@@ -28,4 +28,5 @@ mod StepsSeen
 mod TypeLines
 mod UsesSaid
 mod VerdictLines
+mod VerdictPairs
 mod VerdictsSaid

@@ -1,17 +1,13 @@
 -- Each form of part as syntax.
-use Rattle.std.proofs.Common.{◌≡◌, ℕ, Bool, List, Option, map, rules, sym, subst, ◌∙◌, MatchBool, not, true, false}
-use Rattle.std.specs.declared.alloc.Global.{Global}
-use Rattle.std.specs.declared.vec.Vec.{Vec}
+use Rattle.std.proofs.Common.{◌≡◌, ℕ, Bool, List, Option, rules, sym, subst, ◌∙◌, MatchBool, not, true, false}
 use denote.Enum.Bare.{sameb, differs_false, differs_true}
 use Rattle.evidence_lines.specs.contracts.line.LineKind.{the_type}
 use Rattle.evidence_lines.specs.declared.line.Line.{Line}
 use Rattle.evidence_lines.specs.declared.line.LineKind.{LineKind}
 use Rattle.evidence_lines.specs.declared.version.Version.{Version}
 use Rattle.guard_syntax.specs.Syntax as sx
-use Rattle.guard_syntax.specs.code.Seen.{expr_list, see_body, see_conds, see_expr, see_opt_conds, see_opt_expr, see_part, see_query}
+use Rattle.guard_syntax.specs.code.Seen.{see_opt_expr, see_part, see_query}
 use Rattle.guard_syntax.specs.declared.row.Verdict.{Verdict}
-use Rattle.guard_syntax.specs.declared.syntax.Body.{Body}
-use Rattle.guard_syntax.specs.declared.syntax.Conds.{Conds}
 use Rattle.guard_syntax.specs.declared.syntax.Expr.{Expr}
 use Rattle.guard_syntax.specs.declared.syntax.Op.{Op}
 use Rattle.guard_syntax.specs.declared.syntax.Part.{the_lemmas}
@@ -20,25 +16,12 @@ use Rattle.guard_syntax.specs.declared.syntax.Query.{Query}
 use Rattle.rule_meaning.specs.StoreModel.{StoreModel}
 use Rattle.evidence_rules.specs.Follows.{FollowsAtPart, kind_of_part}
 
-pub block-seen : (site : ℕ) (any : Bool) (head : Query) (inner : Body) → see_part (part.Block site any head inner) ≡ sx.block site any (see_query head) (see_body inner)
-block-seen site any head inner = search (rules, the_lemmas)
-
-pub when-seen : (site : ℕ) (cond : Conds) (inner : Body) → see_part (part.When site cond inner) ≡ sx.guarded site (see_conds cond) (see_body inner)
-when-seen site cond inner = search (rules, the_lemmas)
-
-pub kinds-seen : (site : ℕ) (name : List ℕ) (cond : Option Conds) (inner : Body) → see_part (part.Kinds site name cond inner) ≡ sx.kinds site name (see_opt_conds cond) (see_body inner)
-kinds-seen site name cond inner = search (rules, the_lemmas)
-
 pub test-seen : (site : ℕ) (any : Bool) (left : Query) (op : Op) (negated : Bool) (right : Option Expr) (message : Option (List ℕ))
     → see_part (part.Test site any left op negated right message) ≡ sx.test site any (see_query left) op negated (see_opt_expr right) message
 test-seen site any left op negated right message = search (rules, the_lemmas)
 
 pub refer-seen : (site : ℕ) (negated : Bool) (name : List ℕ) (message : Option (List ℕ)) → see_part (part.Refer site negated name message) ≡ sx.refer site negated name message
 refer-seen site negated name message = search (rules, the_lemmas)
-
-pub call-seen : (site : ℕ) (negated : Bool) (name : List ℕ) (args : Vec Expr Global) (message : Option (List ℕ))
-    → see_part (part.Call site negated name args message) ≡ sx.call site negated name (expr_list (map see_expr args.items)) message
-call-seen site negated name args message = search (rules, the_lemmas)
 
 -- whether a kind of line is another
 pub kind-same : (r : Bool) (a b : LineKind) → r ≡ not (sameb the_type a b) → r ≡ false → a ≡ b

@@ -20,7 +20,8 @@ use Rattle.rule_names.specs.ReferenceGraph.{part_site}
 use Rattle.rule_meaning.specs.StoreModel.{StoreModel}
 use Rattle.evidence_rules.specs.CitedLines.{IsLine}
 use Rattle.evidence_rules.specs.Follows.{SaysVerdict, kind_of_part}
-use Rattle.evidence_checker.proofs.PartForms.{block-seen, call-seen, kinds-seen, refer-seen, test-seen, when-seen}
+use Rattle.rule_names.proofs.Shapes.{block-seen, call-seen, kinds-seen, when-seen}
+use Rattle.evidence_checker.proofs.PartForms.{refer-seen, test-seen}
 
 module _ (known : StoreModel) (lines : List Line) where
   -- the line of a part is of this kind, and of this site

@@ -1,5 +1,6 @@
 -- Lines of the rows of steps: what they cite is one, and so is what they say.
 use Rattle.std.proofs.Common.{◌≡◌, ◌<◌, ◌≤◌, ◌-◌, ◌+◌, ℕ, zero, suc, Bool, true, false, refl, ap, sym, ◌∙◌, subst, arith, get_or, take, drop, List, [], ◌∷◌, ◌++◌, length, Option, Some, None, MatchBool, MatchOption}
+use Rattle.std.specs.List.{flat_map}
 use Rattle.std.specs.Option.{option_map_or}
 use Rattle.std.specs.Prelude.{is_some, not, option_and_then, option_map}
 use Rattle.std.proofs.lemmas.Bool.{true≢false}
@@ -12,6 +13,7 @@ use Rattle.guard_syntax.specs.declared.row.Row.{Row}
 use Rattle.guard_syntax.specs.declared.row.Verdict.{Verdict}
 use Rattle.guard_syntax.specs.declared.syntax.Op.{Op}
 use Rattle.rule_names.specs.Pieces.{OfStep, Piece, piece_at}
+use Rattle.rule_meaning.specs.Keys.{captured_row}
 use Rattle.rule_meaning.specs.StoreModel.{StoreModel}
 use Rattle.evidence_rules.specs.CitedLines.{GivesExpr, GivesStep, GivesVariable, value_of}
 use Rattle.evidence_rules.specs.Follows.{FollowsCapture, FollowsFilter, FollowsStep, GivesBefore, GivesFurther, GivesRight, HasValue, IsLater, SayEach, SaysCandidate}
@@ -32,6 +34,11 @@ IsJudgedSo b Follows = MatchBool b Follows (Follows → ⊥)
 pub judged : (b : Bool) (rows due : List Row) (Follows : Type 0) → (rows ≡ due → Follows) → (Follows → rows ≡ due) → IsJudgedSo b (rows ≡ due) → IsJudgedSo b Follows
 judged true rows due Follows here back is = here is
 judged false rows due Follows here back isnt = λ follows. isnt (back follows)
+
+-- rows that were found to be the same are
+pub rows-same : (b : Bool) (rows due : List Row) → IsJudgedSo b (rows ≡ due) → b ≡ true → rows ≡ due
+rows-same true rows due same holds = same
+rows-same false rows due never holds = absurd (true≢false (sym holds))
 
 pub none-given : {A : Type 0} (r : Option A) (P : Type 0) (Q : A → Type 0) → r ≡ None → P → MatchOption r P Q
 none-given r P Q is p = subst (λ (o : Option _). MatchOption o P Q) (sym is) p
@@ -180,6 +187,13 @@ module _ (known : StoreModel) (lines : List Line) (frame : ℕ) where
 
   pub capture-lacks : (s : Step) (c : ℕ) (cites : List ℕ) (rows : List Row) → cites ≡ c ∷ [] → ((kept : List Row) → GivesStep known.file lines frame s c kept → ⊥) → FollowsCapture known lines frame s cites rows → ⊥
   capture-lacks s c cites rows one never h = let alone = subst (λ (cs : List ℕ). FollowsCapture known lines frame s cs rows) one h in never alone.0 alone.1
+
+  pub capture-due : (s : Step) (c : ℕ) (cites : List ℕ) (kept rows due : List Row) (b : Bool) → cites ≡ c ∷ [] → GivesStep known.file lines frame s c kept → due ≡ flat_map (captured_row known) kept
+      → IsJudgedSo b (rows ≡ due) → IsJudgedSo b (FollowsCapture known lines frame s cites rows)
+  capture-due s c cites kept rows due b one gives is same =
+      subst (λ (cs : List ℕ). IsJudgedSo b (FollowsCapture known lines frame s cs rows)) (sym one)
+      (judged b rows due (FollowsCapture known lines frame s (c ∷ []) rows) (λ e. (kept, gives, e ∙ is))
+      (λ h. h.2 ∙ ap (flat_map (captured_row known)) (one-rows lines c _ _ _ _ _ _ h.0 kept h.1 gives) ∙ sym is) same)
 
   -- ---- the step before
 

@@ -1,36 +1,83 @@
 -- Steps by their forms.
-use Rattle.std.proofs.Common.{◌≡◌, ℕ, Bool, List, Option, false, refl, ap, sym, subst, ◌∙◌, rules}
+use Rattle.std.proofs.Common.{◌≡◌, ℕ, Bool, List, Option, false, refl, ap, sym, subst, ◌∙◌}
 use Rattle.guard_syntax.specs.Syntax as sx
-use Rattle.guard_syntax.specs.code.Seen.{see_conds, see_expr, see_form, see_step}
+use Rattle.guard_syntax.specs.code.Seen.{Form, body_step, conds_step, disj_step, expr_step, form_step, let_step, part_step, query_step, see_conds, see_expr, see_form, see_step, step_step}
 use Rattle.guard_syntax.specs.Named.{Named}
 use Rattle.guard_syntax.specs.declared.syntax.Conds.{Conds, out-Conds}
 use Rattle.guard_syntax.specs.declared.syntax.Expr.{Expr}
+use Rattle.guard_syntax.specs.declared.syntax.Expr.TheOpen.{StepForm-F}
 use Rattle.guard_syntax.specs.declared.syntax.Op.{Op}
-use Rattle.guard_syntax.specs.declared.syntax.Step.{Step, the_lemmas}
-use Rattle.guard_syntax.specs.declared.syntax.StepForm.{StepForm}
+use Rattle.guard_syntax.specs.declared.syntax.Step.{Step}
+use Rattle.guard_syntax.specs.declared.syntax.StepForm.{StepForm, fold-roll-StepForm}
+use Rattle.guard_syntax.specs.declared.syntax.StepForm.TheVariants.{rolls-Every, rolls-Filter, rolls-Index, rolls-Items, rolls-Key, rolls-Keys, rolls-Splice, rolls-This, rolls-Var}
 use Rattle.guard_syntax.specs.declared.syntax.StepForm as form
 use Rattle.evidence_rules.specs.Follows.{conds_site}
 use Rattle.rule_meaning.specs.Places.{is_filter}
+use Rattle.rule_names.proofs.Shapes.{conds-seen, step-seen}
 
-step-seen : (s : Step) → see_step s ≡ see_form s.form s.site
-step-seen s = search (rules, the_lemmas)
+-- ---- forms, each by its layer, in which its parts are syntax
 
-by-form : (s : Step) (f : StepForm) (t : sx.Step) → s.form ≡ f → see_form f s.site ≡ t → see_step s ≡ t
-by-form s f t is seen = step-seen s ∙ ap (λ (g : StepForm). see_form g s.site) is ∙ seen
+this-form : see_form form.This ≡ (λ n. sx.this n)
+this-form =
+    ap see_form (sym rolls-This)
+    ∙ fold-roll-StepForm sx.Expr sx.Part Form sx.Body sx.Conds sx.Disj sx.Let sx.Query sx.Step expr_step part_step form_step body_step conds_step disj_step let_step query_step step_step StepForm-F.This
 
--- ---- forms
+var-form : (name : List ℕ) → see_form (form.Var name) ≡ (λ n. sx.var n name)
+var-form name =
+    ap see_form (sym (rolls-Var name))
+    ∙ fold-roll-StepForm sx.Expr sx.Part Form sx.Body sx.Conds sx.Disj sx.Let sx.Query sx.Step expr_step part_step form_step body_step conds_step disj_step let_step query_step step_step (StepForm-F.Var name)
+
+key-form : (name : List ℕ) → see_form (form.Key name) ≡ (λ n. sx.key n name)
+key-form name =
+    ap see_form (sym (rolls-Key name))
+    ∙ fold-roll-StepForm sx.Expr sx.Part Form sx.Body sx.Conds sx.Disj sx.Let sx.Query sx.Step expr_step part_step form_step body_step conds_step disj_step let_step query_step step_step (StepForm-F.Key name)
+
+index-form : (i : ℕ) → see_form (form.Index i) ≡ (λ n. sx.index n i)
+index-form i =
+    ap see_form (sym (rolls-Index i))
+    ∙ fold-roll-StepForm sx.Expr sx.Part Form sx.Body sx.Conds sx.Disj sx.Let sx.Query sx.Step expr_step part_step form_step body_step conds_step disj_step let_step query_step step_step (StepForm-F.Index i)
+
+every-form : see_form form.Every ≡ (λ n. sx.every n)
+every-form =
+    ap see_form (sym rolls-Every)
+    ∙ fold-roll-StepForm sx.Expr sx.Part Form sx.Body sx.Conds sx.Disj sx.Let sx.Query sx.Step expr_step part_step form_step body_step conds_step disj_step let_step query_step step_step StepForm-F.Every
+
+items-form : see_form form.Items ≡ (λ n. sx.items n)
+items-form =
+    ap see_form (sym rolls-Items)
+    ∙ fold-roll-StepForm sx.Expr sx.Part Form sx.Body sx.Conds sx.Disj sx.Let sx.Query sx.Step expr_step part_step form_step body_step conds_step disj_step let_step query_step step_step StepForm-F.Items
+
+splice-form : (name : Named) → see_form (form.Splice name) ≡ (λ n. sx.splice n name)
+splice-form name =
+    ap see_form (sym (rolls-Splice name))
+    ∙ fold-roll-StepForm sx.Expr sx.Part Form sx.Body sx.Conds sx.Disj sx.Let sx.Query sx.Step expr_step part_step form_step body_step conds_step disj_step let_step query_step step_step (StepForm-F.Splice name)
+
+filter-form : (capture : Option Named) (conditions : Conds) → see_form (form.Filter capture conditions) ≡ (λ n. sx.filter n capture (see_conds conditions))
+filter-form capture conditions =
+    ap see_form (sym (rolls-Filter capture conditions))
+    ∙ fold-roll-StepForm sx.Expr sx.Part Form sx.Body sx.Conds sx.Disj sx.Let sx.Query sx.Step expr_step part_step form_step body_step conds_step disj_step let_step query_step step_step (StepForm-F.Filter capture conditions)
+
+keys-form : (capture : Option Named) (op : Op) (negated : Bool) (right : Expr) → see_form (form.Keys capture op negated right) ≡ (λ n. sx.keys n capture op negated (see_expr right))
+keys-form capture op negated right =
+    ap see_form (sym (rolls-Keys capture op negated right))
+    ∙ fold-roll-StepForm sx.Expr sx.Part Form sx.Body sx.Conds sx.Disj sx.Let sx.Query sx.Step expr_step part_step form_step body_step conds_step disj_step let_step query_step step_step (StepForm-F.Keys capture op negated right)
+
+-- ---- steps, by their forms
+
+by-form : (s : Step) (f : StepForm) (t : ℕ → sx.Step) → s.form ≡ f → see_form f ≡ t → see_step s ≡ t s.site
+by-form s f t is seen = step-seen s ∙ ap (λ (g : StepForm). see_form g s.site) is ∙ ap (λ (g : Form). g s.site) seen
 
 pub var-seen : (s : Step) (name : List ℕ) → s.form ≡ form.Var name → see_step s ≡ sx.var s.site name
-var-seen s name is = by-form s (form.Var name) (sx.var s.site name) is (search (rules, the_lemmas))
+var-seen s name is = by-form s (form.Var name) (λ n. sx.var n name) is (var-form name)
 
 pub splice-seen : (s : Step) (name : Named) → s.form ≡ form.Splice name → see_step s ≡ sx.splice s.site name
-splice-seen s name is = by-form s (form.Splice name) (sx.splice s.site name) is (search (rules, the_lemmas))
+splice-seen s name is = by-form s (form.Splice name) (λ n. sx.splice n name) is (splice-form name)
 
 pub filter-seen : (s : Step) (capture : Option Named) (conditions : Conds) → s.form ≡ form.Filter capture conditions → see_step s ≡ sx.filter s.site capture (see_conds conditions)
-filter-seen s capture conditions is = by-form s (form.Filter capture conditions) (sx.filter s.site capture (see_conds conditions)) is (search (rules, the_lemmas))
+filter-seen s capture conditions is = by-form s (form.Filter capture conditions) (λ n. sx.filter n capture (see_conds conditions)) is (filter-form capture conditions)
 
 pub keys-seen : (s : Step) (capture : Option Named) (op : Op) (negated : Bool) (right : Expr) → s.form ≡ form.Keys capture op negated right → see_step s ≡ sx.keys s.site capture op negated (see_expr right)
-keys-seen s capture op negated right is = by-form s (form.Keys capture op negated right) (sx.keys s.site capture op negated (see_expr right)) is (search (rules, the_lemmas))
+keys-seen s capture op negated right is = by-form s (form.Keys capture op negated right) (λ n. sx.keys n capture op negated (see_expr right)) is (keys-form capture op negated right)
 
 -- ---- those that are not
 
@@ -56,12 +103,12 @@ module _ (P : sx.Step → Type 0) (n : ℕ) (this : P (sx.this n)) (key : (name 
   simple : (f : StepForm) → ((name : List ℕ) → f ≡ form.Var name → P (see_form f n)) → ((name : Named) → f ≡ form.Splice name → P (see_form f n))
       → ((capture : Option Named) (conditions : Conds) → f ≡ form.Filter capture conditions → ⊥)
       → ((capture : Option Named) (op : Op) (negated : Bool) (right : Expr) → f ≡ form.Keys capture op negated right → ⊥) → P (see_form f n)
-  simple form.This var splice no_filter no_keys = let e : sx.this n ≡ see_form form.This n = search (rules, the_lemmas) in subst P e this
+  simple form.This var splice no_filter no_keys = subst (λ (g : Form). P (g n)) (sym this-form) this
   simple (form.Var name) var splice no_filter no_keys = var name refl
-  simple (form.Key name) var splice no_filter no_keys = let e : sx.key n name ≡ see_form (form.Key name) n = search (rules, the_lemmas) in subst P e (key name)
-  simple (form.Index i) var splice no_filter no_keys = let e : sx.index n i ≡ see_form (form.Index i) n = search (rules, the_lemmas) in subst P e (index i)
-  simple form.Every var splice no_filter no_keys = let e : sx.every n ≡ see_form form.Every n = search (rules, the_lemmas) in subst P e every
-  simple form.Items var splice no_filter no_keys = let e : sx.items n ≡ see_form form.Items n = search (rules, the_lemmas) in subst P e items
+  simple (form.Key name) var splice no_filter no_keys = subst (λ (g : Form). P (g n)) (sym (key-form name)) (key name)
+  simple (form.Index i) var splice no_filter no_keys = subst (λ (g : Form). P (g n)) (sym (index-form i)) (index i)
+  simple form.Every var splice no_filter no_keys = subst (λ (g : Form). P (g n)) (sym every-form) every
+  simple form.Items var splice no_filter no_keys = subst (λ (g : Form). P (g n)) (sym items-form) items
   simple (form.Splice name) var splice no_filter no_keys = splice name refl
   simple (form.Filter capture conditions) var splice no_filter no_keys = absurd (no_filter capture conditions refl)
   simple (form.Keys capture op negated right) var splice no_filter no_keys = absurd (no_keys capture op negated right refl)
@@ -86,4 +133,4 @@ nothing-seen s no_var no_splice no_filter no_keys =
 -- ---- conditions
 
 pub conds-site : (c : Conds) → conds_site (see_conds c) ≡ (out-Conds c).site
-conds-site c = search (rules, the_lemmas)
+conds-site c = ap conds_site (conds-seen c)

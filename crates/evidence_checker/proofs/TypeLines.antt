@@ -1,5 +1,6 @@
 -- Lines of the rows of type blocks.
-use Rattle.std.proofs.Common.{◌≡◌, ℕ, Bool, true, false, refl, ap, sym, ◌∙◌, subst, List, [], Option, Some, MatchBool, is_some, rules}
+use Rattle.std.proofs.Common.{◌≡◌, ◌≤◌, ℕ, Bool, true, false, refl, ap, sym, ◌∙◌, subst, arith, length, List, [], Option, None, Some, MatchBool, is_some}
+use Rattle.std.proofs.lemmas.Option.{none-some}
 use Rattle.evidence_lines.specs.declared.line.Line.{Line}
 use Rattle.evidence_lines.specs.declared.line.LineKind.{LineKind}
 use Rattle.evidence_lines.specs.declared.line.LineKind.TheVariants as kind
@@ -10,8 +11,8 @@ use Rattle.guard_syntax.specs.declared.row.Row.{Row}
 use Rattle.guard_syntax.specs.declared.syntax.Body.{Body}
 use Rattle.guard_syntax.specs.declared.syntax.Conds.{Conds}
 use Rattle.guard_syntax.specs.declared.syntax.Part as code
-use Rattle.guard_syntax.specs.declared.syntax.Step.{the_lemmas}
 use Rattle.rule_names.specs.Pieces.{OfPart}
+use Rattle.rule_names.proofs.Shapes.{kinds-seen as type-seen}
 use Rattle.rule_meaning.specs.StoreModel.{StoreModel, Made}
 use Rattle.evidence_rules.specs.CitedLines.{value_of}
 use Rattle.evidence_rules.specs.Follows.{FollowsRows, HasValue}
@@ -19,9 +20,22 @@ use Rattle.rule_meaning.specs.Places.{rows_at_type, type_of_part}
 use Rattle.evidence_checker.proofs.OneGiven.{one-there}
 
 pub kinds-seen : (p : code.Part) (site : ℕ) (name : List ℕ) (conditions : Option Conds) (inner : Body) → p ≡ code.Kinds site name conditions inner → is_some (type_of_part (see_part p)) ≡ true
-kinds-seen p site name conditions inner is =
-    let there : is_some (type_of_part (see_part (code.Kinds site name conditions inner))) ≡ true = search (rules, the_lemmas) in
-    ap (λ (x : code.Part). is_some (type_of_part (see_part x))) is ∙ there
+kinds-seen p site name conditions inner is = ap (λ (x : Part). is_some (type_of_part x)) (ap see_part is ∙ type-seen site name conditions inner)
+
+-- a line that says the rows of a type block has a value for its frame, and cites none
+module _ (known : StoreModel) (lines : List Line) (frame site : ℕ) (cites : List ℕ) (of : LineKind) (p : Part) (rows : List Row) (more : List Made) where
+  types-said : (k : LineKind) (x : Part) → FollowsRows known lines frame site k (Some (OfPart x)) cites rows more → (k ≡ kind.Types) × ((current : Ref) × HasValue known lines frame current) × (cites ≡ [])
+  types-said kind.Types (kinds n name conditions inner) h = (refl, (h.0, h.1), h.2)
+  types-said k x h = absurd h
+
+  pub types-of-kind : (of ≡ kind.Types → ⊥) → FollowsRows known lines frame site of (Some (OfPart p)) cites rows more → ⊥
+  types-of-kind other h = other (types-said of p h).0
+
+  pub types-uncited : 1 ≤ length cites → FollowsRows known lines frame site of (Some (OfPart p)) cites rows more → ⊥
+  types-uncited many h = let none : length cites ≡ 0 = ap length (types-said of p h).2 in absurd (omega (arith, many, none))
+
+  pub types-unframed : None ≡ value_of lines frame → FollowsRows known lines frame site of (Some (OfPart p)) cites rows more → ⊥
+  types-unframed none h = let has = (types-said of p h).1 in none-some has.0 (none ∙ has.1)
 
 module _ (known : StoreModel) (lines : List Line) (frame site : ℕ) (cites : List ℕ) (current : Ref) (has : HasValue known lines frame current) (none : cites ≡ []) where
   at-kinds : (p : Part) (rows due : List Row) (b : Bool) → is_some (type_of_part p) ≡ true → due ≡ rows_at_type known site current → MatchBool b (rows ≡ due) (rows ≡ due → ⊥)

@@ -1,5 +1,5 @@
 -- Lines of verdicts, by the kind of the line and the piece of its site.
-use Rattle.std.proofs.Common.{◌≡◌, ℕ, Bor, refl, Bool, true, false, List, Option, Some, None, map, ap, sym, ◌∙◌, subst, rules, MatchBool}
+use Rattle.std.proofs.Common.{◌≡◌, ℕ, Bor, refl, Bool, true, false, List, Option, Some, None, map, ap, sym, ◌∙◌, subst, MatchBool}
 use Rattle.evidence_lines.specs.declared.line.Line.{Line}
 use Rattle.evidence_lines.specs.declared.line.LineKind.{LineKind}
 use Rattle.evidence_lines.specs.declared.line.LineKind.TheVariants as kind
@@ -7,13 +7,14 @@ use Rattle.evidence_lines.specs.declared.version.Version.{Version}
 use Rattle.guard_syntax.specs.code.Seen.{disj_list, see_body, see_conds, see_disj}
 use Rattle.guard_syntax.specs.Syntax as sx
 use Rattle.guard_syntax.specs.declared.row.Verdict.{Verdict}
-use Rattle.guard_syntax.specs.declared.syntax.Body.{Body, out-Body, the_lemmas as body_lemmas}
-use Rattle.guard_syntax.specs.declared.syntax.Conds.{Conds, out-Conds, the_lemmas as conds_lemmas}
+use Rattle.guard_syntax.specs.declared.syntax.Body.{Body, out-Body}
+use Rattle.guard_syntax.specs.declared.syntax.Conds.{Conds, out-Conds}
 use Rattle.guard_syntax.specs.declared.syntax.Disj.{Disj}
 use Rattle.guard_syntax.specs.declared.syntax.Part.{Part}
 use Rattle.guard_syntax.specs.declared.syntax.Rule.{Rule}
 use Rattle.rule_names.specs.Pieces.{OfBody, OfConds, OfDisj, OfFile, OfPart, OfRule, Piece}
 use Rattle.rule_names.specs.code.Seen.{see_piece}
+use Rattle.rule_names.proofs.Shapes.{body-seen, conds-seen}
 use Rattle.rule_names.specs.declared.piece.Piece as shape
 use Rattle.rule_names.specs.declared.piece.Piece.TheVariants as code
 use Rattle.rule_meaning.specs.StoreModel.{StoreModel}
@@ -27,10 +28,10 @@ abbrev conds_disjs : sx.Conds → sx.Disjs
 conds_disjs (sx.conds n ds) = ds
 
 body-disjs : (b : Body) → body_disjs (see_body b) ≡ disj_list (map see_disj (out-Body b).parts.items)
-body-disjs b = search (rules, body_lemmas)
+body-disjs b = ap body_disjs (body-seen b)
 
 conds-disjs : (c : Conds) → conds_disjs (see_conds c) ≡ disj_list (map see_disj (out-Conds c).parts.items)
-conds-disjs c = search (rules, conds_lemmas)
+conds-disjs c = ap conds_disjs (conds-seen c)
 
 disjs-of : (ds all : List Disj) → ds ≡ all → disj_list (map see_disj all) ≡ disj_list (map see_disj ds)
 disjs-of ds all are = ap (λ (xs : List Disj). disj_list (map see_disj xs)) (sym are)

@@ -1,5 +1,5 @@
 -- Verdicts that cited lines say, one line for each part, and what they are together.
-use Rattle.std.proofs.Common.{◌≡◌, ℕ, ◌+◌, ◌<◌, ◌≤◌, Bool, true, false, List, [], ◌∷◌, length, map, drop, get_or, refl, ap, ap₂, sym, subst, ◌∙◌, arith, rules, Option, Some, None, MatchBool, MatchOption}
+use Rattle.std.proofs.Common.{◌≡◌, ℕ, ◌+◌, ◌<◌, ◌≤◌, Bool, true, false, List, [], ◌∷◌, length, map, drop, get_or, refl, ap, ap₂, sym, subst, ◌∙◌, arith, Option, Some, None, MatchBool, MatchOption}
 use Rattle.std.proofs.lemmas.List.{drop_more, drop_all}
 use Rattle.evidence_lines.specs.declared.line.Line.{Line}
 use Rattle.evidence_lines.specs.Lines.{line_of}
@@ -10,9 +10,10 @@ use Rattle.guard_syntax.specs.Syntax as sx
 use Rattle.guard_syntax.specs.code.Seen.{disj_list, part_list, see_disj, see_part}
 use Rattle.guard_syntax.specs.declared.row.Verdict.{Verdict}
 use Rattle.guard_syntax.specs.declared.row.Verdict.TheVariants.{Pass, Fail, Skip}
-use Rattle.guard_syntax.specs.declared.syntax.Disj.{Disj, the_lemmas}
+use Rattle.guard_syntax.specs.declared.syntax.Disj.{Disj}
 use Rattle.guard_syntax.specs.declared.syntax.Part.{Part}
 use Rattle.rule_names.specs.ReferenceGraph.{part_site}
+use Rattle.rule_names.proofs.Shapes.{disj-seen}
 use Rattle.rule_meaning.specs.StoreModel.{StoreModel}
 use Rattle.evidence_rules.specs.CitedLines.{IsLine}
 use Rattle.evidence_rules.specs.Follows.{Behind, FollowsConj, FollowsDisj, FollowsLoose, SayDisjs, SayParts, SaysVerdict, is_stop, kind_of_part}
@@ -145,9 +146,6 @@ disjunction-two Skip Fail vs = refl
 disjunction-two Skip Skip vs = refl
 
 -- ---- the disjunctions of a body, and the parts of a disjunction
-
-pub disj-seen : (d : Disj) → see_disj d ≡ sx.disj d.site (part_list (map see_part d.parts.items))
-disj-seen d = search (rules, the_lemmas)
 
 -- ---- what is said is said once
 

@@ -184,10 +184,13 @@ fn joined(any: bool, before: Verdict, row: Verdict) -> Verdict
 pub(crate) fn both(before: Verdict, row: Verdict) -> Verdict
     ensures { result ≡ conjunction (before ∷ row ∷ []) }
 {
-    match (before, row) {
-        (Verdict::Fail, _) | (_, Verdict::Fail) => Verdict::Fail,
-        (Verdict::Pass, _) | (_, Verdict::Pass) => Verdict::Pass,
-        (Verdict::Skip, Verdict::Skip) => Verdict::Skip,
+    match before {
+        Verdict::Fail => Verdict::Fail,
+        Verdict::Skip => row,
+        Verdict::Pass => match row {
+            Verdict::Fail => Verdict::Fail,
+            _ => Verdict::Pass,
+        },
     }
 }
 
@@ -195,9 +198,12 @@ pub(crate) fn both(before: Verdict, row: Verdict) -> Verdict
 pub(crate) fn either(before: Verdict, row: Verdict) -> Verdict
     ensures { result ≡ disjunction (before ∷ row ∷ []) }
 {
-    match (before, row) {
-        (Verdict::Pass, _) | (_, Verdict::Pass) => Verdict::Pass,
-        (Verdict::Fail, _) | (_, Verdict::Fail) => Verdict::Fail,
-        (Verdict::Skip, Verdict::Skip) => Verdict::Skip,
+    match before {
+        Verdict::Pass => Verdict::Pass,
+        Verdict::Skip => row,
+        Verdict::Fail => match row {
+            Verdict::Pass => Verdict::Pass,
+            _ => Verdict::Fail,
+        },
     }
 }

@@ -1,22 +1,22 @@
 //! Lines of rows of calls, and the trees that they make.
-ghost use Rattle.std.specs.Prelude.{◌≡◌, ℕ, List, true, map, None, IfOk, IfSome, OnOk, MatchBool, MatchOption};
+ghost use Rattle.std.specs.Prelude.{◌≡◌, ◌++◌, ◌∷◌, [], ℕ, List, true, map, None, IfOk, OnOk, MatchBool, MatchOption};
 ghost use Rattle.std.specs.List.{list_all};
 ghost use Rattle.evidence_lines.specs.declared.line.LineKind.TheVariants as kind;
 ghost use Rattle.guard_builtins.specs.code.Seen.{is_plain, see_made, see_rows};
 ghost use Rattle.guard_syntax.specs.code.Seen.{expr_list, see_expr};
 ghost use Rattle.guard_syntax.specs.Syntax.{Exprs};
 ghost use Rattle.rule_names.specs.Pieces.{piece_at};
-ghost use Rattle.rule_meaning.specs.Functions.{MadeRow};
 ghost use Rattle.rule_meaning.specs.StoreModel.{is_known, made_at};
 ghost use Rattle.value_compare.specs.code.Stores.{see_store};
 ghost use Rattle.evidence_rules.specs.CitedLines.{GiveArgs};
 ghost use Rattle.evidence_rules.specs.Follows.{FollowsRows};
 ghost use Rattle.rule_meaning.specs.Seeing.{grown, rows_kept, trees_kept};
 ghost use Rattle.evidence_lookups.specs.code.Grounds.{file_in, known_of, lines_of};
-ghost use Rattle.evidence_checker.specs.code.Calls.{IsAnswered, IsCall, IsCallAt};
+ghost use Rattle.evidence_checker.specs.code.Calls.{IsCall, IsCallAt};
 ghost use Rattle.evidence_checker.specs.code.Kept.{row_kept};
 ghost use Rattle.evidence_checker.specs.code.Makes.{IsMade};
 
+use evidence_lines::Rows;
 use evidence_lookups::cited_rows::given_by_expr;
 use evidence_lookups::expression_lines::stands_at;
 use evidence_lookups::line_context::{LineContext, SitedLine};
@@ -36,26 +36,6 @@ pub(crate) fn call_follows(
         (FollowsRows (known_of context.now) (lines_of context.now) line.entry.frame line.entry.site kind.Fn (piece_at (file_in context.now) line.entry.site) line.entry.cites.now rows.now)
         (λ after. list_all (is_known after) rows.now ≡ true)) }
 {
-    let Some(answer) = answer_of(context, line)? else {
-        return Ok(None);
-    };
-    let number = context.lines.len() + 1;
-    if !are_kept(number, &answer, rows) {
-        return Ok(None);
-    }
-    Ok(Some(answer))
-}
-
-/// What the call of a line's site answers by the lines that it cites, one for each argument.
-fn answer_of(
-    context: &LineContext<'_, '_, '_>,
-    line: SitedLine<'_>,
-) -> Result<Option<Vec<Made>>, AllocError>
-    ensures answer { IfOk result (λ found. MatchOption found
-        ((answer : List MadeRow) → IsAnswered (known_of context.now) (lines_of context.now) line.entry.frame line.entry.site line.entry.cites.now answer → ⊥)
-        (λ answer. IsAnswered (known_of context.now) (lines_of context.now) line.entry.frame line.entry.site line.entry.cites.now (map see_made answer.items))) }
-    ensures plain { IfOk result (λ found. IfSome found (λ answer. list_all is_plain answer.items ≡ true)) }
-{
     let Some(called) = call_at(context, line.site) else {
         return Ok(None);
     };
@@ -70,6 +50,10 @@ fn answer_of(
         context.store,
         context.book,
     )?;
+    let number = context.lines.len() + 1;
+    if !are_kept(number, &answer, rows) {
+        return Ok(None);
+    }
     Ok(Some(answer))
 }
 
@@ -129,9 +113,17 @@ fn rows_of_args(
         let Some(rows) = given_by_expr(context, line.frame, arg, cites[at]) else {
             return Ok(None);
         };
-        all.push(rows.to_vec(context.alloc)?)?;
+        add_rows(&mut all, rows, context.alloc)?;
     }
     Ok(Some(all))
+}
+
+/// Adds rows behind those of other arguments.
+fn add_rows(all: &mut Vec<Vec<Row>>, rows: Rows<'_>, alloc: Global) -> Result<(), AllocError>
+    ensures { OnOk result (map see_rows all.new.items ≡ map see_rows all.old.items ++ rows.entry ∷ []) }
+{
+    all.push(rows.to_vec(alloc)?)?;
+    Ok(())
 }
 
 /// Whether rows are those of an answer whose new trees are kept at a line.

@@ -55,12 +55,11 @@ pub fn check<'t, 's>(
 {
     let tables = FileTables::new(alloc, file)?;
     let mut store = Store::new(alloc, doc, file);
-    keep_literals(&mut store, &tables.pieces)?;
     judge_lines(alloc, &mut store, book, &tables, evidence)
 }
 
-/// Judges the lines of evidence, each over those before it, with a store in which nothing is made. What calls make is added
-/// to the store here, a line at a time.
+/// Judges the lines of evidence, each over those before it, with a store in which nothing is made. The literals of the rules
+/// are kept in it first, and what calls make is added to it a line at a time.
 fn judge_lines<'t>(
     alloc: Global,
     store: &mut Store<'t, '_>,
@@ -73,6 +72,7 @@ fn judge_lines<'t>(
     requires made { (see_store store.old).made ≡ [] }
     ensures { IfOk result (λ answer. IsAnswer evidence.now.version (see_store store.old).template (see_store store.old).file evidence.now.lines answer) }
 {
+    keep_literals(store, &tables.pieces)?;
     let written = evidence.version();
     let syntax = store.file.raw();
     let mut judged = Judged::new(alloc, syntax.places.as_slice().len())?;
@@ -131,8 +131,7 @@ fn all_verdicts(
     let Some(verdicts) = rule_verdicts(alloc, &file.rules, judged)? else {
         return Ok(None);
     };
-    let all = with_loose(verdicts, &file.loose, judged)?;
-    Ok(all)
+    with_loose(verdicts, &file.loose, judged)
 }
 
 /// The verdicts with that of the parts outside rules behind them, if there are some, unless it is wanting.

@@ -11,10 +11,9 @@ ghost use Rattle.evidence_rules.specs.Follows.{FollowsAtStep, FollowsCapture, Fo
 ghost use Rattle.rule_meaning.specs.Places.{is_filter, step_in, steps_in};
 ghost use Rattle.evidence_lookups.specs.code.Grounds.{file_in, known_of, lines_of};
 
-use crate::due_rows::{IndexedStep, due_candidates, due_rows};
+use crate::due_rows::{IndexedStep, are_due, verdicts_due};
 use crate::one_cite::{expr_cited, variable_cited};
 use crate::row_equality::same_rows;
-use crate::tried_candidates::tried_verdicts;
 use evidence_lines::{LineKind, Rows};
 use evidence_lookups::cited_rows::given_by_step;
 use evidence_lookups::line_context::{LineContext, SitedLine};
@@ -91,8 +90,7 @@ fn other_follows(
         further: further.as_slice(),
         verdicts: &[],
     };
-    let due = due_rows(context, line.site, at, input)?;
-    Ok(same_rows(rows, &due))
+    are_due(context, line.site, at, input, rows)
 }
 
 /// Whether the rows of the filter of an index, which has these conditions, follow: none stands at the start of a query.
@@ -114,33 +112,29 @@ fn filter_follows(
     if index == 0 {
         return Ok(false);
     }
-    let lines = &context.lines;
-    let Some(current) = value_of(lines, line.frame) else {
+    let Some(current) = value_of(&context.lines, line.frame) else {
         return Ok(false);
     };
     let Some((before, last)) = rows_before(context, line, at.query, index) else {
         return Ok(false);
     };
-    let gathered = before.gather(context.alloc)?;
-    let before = gathered.as_slice();
-    let tried = due_candidates(context, line.site, at, before)?;
+    let before = before.gather(context.alloc)?;
     let judges = SitedLine {
         frame: line.frame,
         site: line.site,
         kind: line.kind,
         cites: last,
     };
-    let Some(verdicts) = tried_verdicts(context.alloc, lines, judges, conditions, &tried)? else {
+    let Some(verdicts) = verdicts_due(context, judges, at, conditions, before.as_slice())? else {
         return Ok(false);
     };
     let input = StepInput {
         current,
-        before,
+        before: before.as_slice(),
         further: &[],
         verdicts: &verdicts,
     };
-    let due = due_rows(context, line.site, at, input)?;
-    Ok(same_rows(rows, &due))
+    are_due(context, line.site, at, input, rows)
 }
 
 /// Whether the keys that a filter or key filter captures follow.

@@ -40,10 +40,8 @@ pub(crate) fn block_stop(any: bool, version: Version) -> Option<Verdict>
 pub(crate) fn is_stop(stop: Option<Verdict>, verdict: Verdict) -> bool
     ensures { result ≡ is_stop stop verdict }
 {
-    match (stop, verdict) {
-        (Some(Verdict::Pass), Verdict::Pass) => true,
-        (Some(Verdict::Fail), Verdict::Fail) => true,
-        (Some(Verdict::Skip), Verdict::Skip) => true,
-        _ => false,
+    match stop {
+        Some(decides) => decides == verdict,
+        None => false,
     }
 }

@@ -161,7 +161,12 @@ fn verdict_of_set(not: bool, rows: &[Row]) -> Verdict
 fn one_is_found(rows: &[Row]) -> bool
     ensures { result ≡ list_any judged.is_found rows.now }
 {
-    rows.iter().any(|row| is_found(row))
+    for row in rows {
+        if is_found(row) {
+            return true;
+        }
+    }
+    false
 }
 
 /// Whether a test on left rows against right rows holds: with `some` one left row that passes is enough.

@@ -167,7 +167,7 @@ fn conj_follows(
         (FollowsConj known lines.now line.entry.frame stop (disj_list (map see_disj disjs.now)) line.entry.cites.now verdict → ⊥) }
 {
     match conjunction_said(lines, line.frame, stop, disjs, line.cites) {
-        Some(said) => is_same(said, verdict),
+        Some(said) => said == verdict,
         None => false,
     }
 }
@@ -185,16 +185,9 @@ fn disj_follows(
         (FollowsDisj known lines.now line.entry.frame stop (see_disj disj.now) line.entry.cites.now verdict → ⊥) }
 {
     match disjunction_said(lines, line.frame, stop, &disj.parts, line.cites) {
-        Some(said) => is_same(said, verdict),
+        Some(said) => said == verdict,
         None => false,
     }
-}
-
-/// Whether two verdicts are the same.
-fn is_same(said: Verdict, verdict: Verdict) -> bool
-    ensures { MatchBool result (said ≡ verdict) (said ≡ verdict → ⊥) }
-{
-    said == verdict
 }
 
 /// The conjunction of what cited lines say of disjunctions, one line for each up to the one that decides.

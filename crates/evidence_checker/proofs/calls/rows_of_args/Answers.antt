@@ -1,10 +1,9 @@
 use Rattle.evidence_rules.specs.CitedLines.{GiveArgs}
 use Rattle.guard_syntax.specs.declared.syntax.Expr.{Expr}
 use Rattle.guard_syntax.specs.code.Seen.{expr_list, see_expr}
-use Rattle.std.proofs.Common.{◌++◌, [], ◌∷◌, List, arith, map, ap, ◌∙◌, take, subst, ℕ, length, ◌≤◌}
-use Rattle.std.proofs.lemmas.List.{map-append, take_all}
+use Rattle.std.proofs.Common.{List, arith, map, take, subst, ℕ, length, ◌<◌, ◌≤◌}
+use Rattle.std.proofs.lemmas.List.{take_all}
 use Rattle.guard_builtins.specs.code.Seen.{see_rows}
-use Rattle.guard_syntax.specs.declared.row.Row.{Row}
 use Rattle.evidence_lookups.specs.code.Grounds.{file_in, lines_of}
 use Rattle.evidence_checker.proofs.ArgumentsGiven.{args-counted, args-lacking, args-next}
 use Rattle.evidence_checker.proofs.calls.rows_of_args.Goals as goal
@@ -14,14 +13,13 @@ returns-then-args-cites c = λ all h. let many = args-counted (file_in c.args.co
 
 pub returns-in_default : goal.returns-in_default
 returns-in_default c =
-    args-lacking (file_in c.args.context.now) (lines_of c.args.context.now) c.args.line.frame c.args.args.now c.args.line.cites.now c.loop-at.at c.index-args-at.result (omega arith) c.index-args-at.is c.in_default.ensures
+    args-lacking (file_in c.args.context.now) (lines_of c.args.context.now) c.args.line.frame c.args.args.now c.args.line.cites.now c.loop-at.at c.index-args-at.result c.loop-at-test.true c.index-args-at.is c.in_default.ensures
 
 pub loop-at-preserved : goal.loop-at-preserved
 loop-at-preserved c =
-    args-next (file_in c.args.context.now) (lines_of c.args.context.now) c.args.line.frame c.args.args.now c.args.line.cites.now c.loop-at.at c.index-args-at.result (omega arith) (omega (arith, c.if-args-cites.false)) c.index-args-at.is
-    (map see_rows c.loop-at.all.items) (map see_rows c.push.new.self.items) c.in-Some.rows c.loop-at.invariant c.in-Some.ensures
-    (ap (map see_rows) c.in_ok-push.ensures.items ∙ map-append see_rows c.loop-at.all.items (c.in_ok-to_vec.field-0 ∷ [])
-    ∙ ap (λ (rows : List Row). map see_rows c.loop-at.all.items ++ rows ∷ []) c.in_ok-to_vec.ensures)
+    args-next (file_in c.args.context.now) (lines_of c.args.context.now) c.args.line.frame c.args.args.now c.args.line.cites.now c.loop-at.at c.index-args-at.result c.loop-at-test.true (subst (λ (n : ℕ). c.loop-at.at < n) c.if-args-cites.false c.loop-at-test.true) c.index-args-at.is
+    (map see_rows c.loop-at.all.items) (map see_rows c.add_rows.new.all.items) c.in-Some.rows c.loop-at.invariant c.in-Some.ensures
+    c.in_ok-add_rows.ensures
 
 pub returns : goal.returns
 returns c =
@@ -30,3 +28,9 @@ returns c =
     (take_all c.loop-at.at c.args.args.now c.loop-at-test.false)
     (subst (λ (cs : List ℕ). GiveArgs (file_in c.args.context.now) (lines_of c.args.context.now) c.args.line.frame (expr_list (map see_expr (take c.loop-at.at c.args.args.now))) cs (map see_rows c.loop-at.all.items))
     (take_all c.loop-at.at c.args.line.cites.now past) c.loop-at.invariant)
+
+pub bounds-args-at : goal.bounds-args-at
+bounds-args-at c = c.loop-at-test.true
+
+pub bounds-cites-at : goal.bounds-cites-at
+bounds-cites-at c = subst (λ (n : ℕ). c.loop-at.at < n) c.if-args-cites.false c.loop-at-test.true

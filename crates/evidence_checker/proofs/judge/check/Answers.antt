@@ -1,4 +1,4 @@
-use Rattle.std.proofs.Common.{◌∙◌, IfOk, subst, sym}
+use Rattle.std.proofs.Common.{IfOk, subst, sym}
 use Rattle.rule_names.specs.declared.file.RuleFile.{RuleFile}
 use Rattle.rule_meaning.specs.StoreModel.{StoreModel}
 use Rattle.value_compare.specs.code.Books.{IsBookOf}
@@ -7,24 +7,18 @@ use Rattle.evidence_checker.specs.code.Answered.{IsAnswer}
 use Rattle.evidence_checker.proofs.Answering.{store-starts}
 use Rattle.evidence_checker.proofs.judge.check.Goals as goal
 
-pub keep_literals-requires : goal.keep_literals-requires
-keep_literals-requires c = c.in_ok-tables.ensures.0 ∙ sym c.new-store.ensures.file
-
 pub judge_lines-requires-clause-book : goal.judge_lines-requires-clause-book
 judge_lines-requires-clause-book c =
     subst (λ (k : StoreModel). IsBookOf k.file c.args.book.now)
-    (sym (store-starts c.keep_literals.new.store c.args.doc.now c.args.file.now (c.in_ok-keep_literals.ensures.doc ∙ c.new-store.ensures.doc) (c.in_ok-keep_literals.ensures.file ∙ c.new-store.ensures.file)
-    (c.in_ok-keep_literals.ensures.made ∙ c.new-store.ensures.made))) c.requires.book
+    (sym (store-starts c.new-store.result c.args.doc.now c.args.file.now c.new-store.ensures.doc c.new-store.ensures.file c.new-store.ensures.made)) c.requires.book
 
 pub judge_lines-requires-clause-tables : goal.judge_lines-requires-clause-tables
-judge_lines-requires-clause-tables c =
-    subst (λ (f : RuleFile). AreTablesOf f c.in_ok-tables.tables) (sym (c.in_ok-keep_literals.ensures.file ∙ c.new-store.ensures.file)) c.in_ok-tables.ensures
+judge_lines-requires-clause-tables c = subst (λ (f : RuleFile). AreTablesOf f c.in_ok-tables.tables) (sym c.new-store.ensures.file) c.in_ok-tables.ensures
 
 pub judge_lines-requires-clause-made : goal.judge_lines-requires-clause-made
-judge_lines-requires-clause-made c = c.in_ok-keep_literals.ensures.made ∙ c.new-store.ensures.made
+judge_lines-requires-clause-made c = c.new-store.ensures.made
 
 pub returns : goal.returns
 returns c =
     subst (λ (k : StoreModel). IfOk c.judge_lines.result (λ answer. IsAnswer c.args.evidence.now.version k.template k.file c.args.evidence.now.lines answer))
-    (store-starts c.keep_literals.new.store c.args.doc.now c.args.file.now (c.in_ok-keep_literals.ensures.doc ∙ c.new-store.ensures.doc) (c.in_ok-keep_literals.ensures.file ∙ c.new-store.ensures.file)
-    (c.in_ok-keep_literals.ensures.made ∙ c.new-store.ensures.made)) c.judge_lines.ensures
+    (store-starts c.new-store.result c.args.doc.now c.args.file.now c.new-store.ensures.doc c.new-store.ensures.file c.new-store.ensures.made) c.judge_lines.ensures

@@ -16,7 +16,8 @@ use Rattle.evidence_lookups.specs.code.JudgedSites.{AreJudged}
 use Rattle.evidence_lookups.specs.code.Owned.{AreOwners}
 use Rattle.evidence_lookups.specs.code.Said.{AreMadeWithin, AreSound, IsSound}
 use Rattle.evidence_checker.specs.code.Answered.{IsAnswer}
-use Rattle.evidence_checker.proofs.Answering.{rejected-at, starts}
+use Rattle.evidence_checker.specs.code.Judging.{IsKnownBehind}
+use Rattle.evidence_checker.proofs.Answering.{rejected-at, starts, store-same}
 use Rattle.evidence_checker.proofs.KeptTrees.{free-behind}
 use Rattle.evidence_checker.proofs.KnownBehind.{behind-none}
 use Rattle.evidence_checker.proofs.Leading.{made-of, none-made}
@@ -24,16 +25,21 @@ use Rattle.evidence_checker.proofs.LinesInTurn.{all-behind, all-judged, counted,
 use Rattle.evidence_checker.proofs.RuleVerdicts.{noted}
 use Rattle.evidence_checker.proofs.judge.judge_lines.Goals as goal
 
+pub keep_literals-requires : goal.keep_literals-requires
+keep_literals-requires c = c.requires.tables.0
+
 pub loop-before-init : goal.loop-before-init
 loop-before-init c =
     let start = see_store c.args.store.now in
+    let kept = c.in_ok-keep_literals.ensures in
+    let same : see_store c.keep_literals.new.store ≡ start = store-same c.keep_literals.new.store c.args.store.now kept.doc kept.file kept.made in
     record {
-      file = refl;
-      behind = behind-none c.version-written.result start;
+      file = kept.file;
+      behind = subst (IsKnownBehind c.version-written.result start []) (sym same) (behind-none c.version-written.result start);
       judged = c.in_ok-judged.ensures.judged;
       sites = c.in_ok-judged.ensures.sites ∙ ap (λ (xs : List ℕ). length xs) (c.as_slice.ensures ∙ ap (λ (raw : RawFile). raw.places) c.raw-syntax.ensures);
-      sound = All-nil (IsSound start);
-      made = subst (AreMadeWithin 0) (sym c.requires.made) (All-nil (λ (m : Made). m.line ≤ 0));
+      sound = All-nil (IsSound (see_store c.keep_literals.new.store));
+      made = subst (AreMadeWithin 0) (sym (kept.made ∙ c.requires.made)) (All-nil (λ (m : Made). m.line ≤ 0));
     }
 
 pub invariant_of-context : goal.invariant_of-context
@@ -122,11 +128,12 @@ returns c =
     let version = c.version-written.result in
     let given = c.args.evidence.now.lines in
     let result = c.answer_of.result in
+    let raw_is = c.raw-syntax.ensures ∙ ap (λ (f : RuleFile). f.raw) c.in_ok-keep_literals.ensures.file in
     let past : length given ≤ c.loop-before.before = omega (arith, c.loop-before-test.false, c.len-before-end.ensures.count) in
     let follow = subst (λ (k : StoreModel). AllFollow version k [] given) (starts start c.requires.made)
     (all-behind version start (see_store c.loop-before.store) given c.loop-before.before past c.loop-before.invariant.behind) in
     let judged = all-judged given c.loop-before.before c.loop-before.judged.of.items past c.loop-before.invariant.judged in
     subst (λ (v : Version). IfOk result (λ answer. IsAnswer v doc file given answer)) c.version-written.ensures
-    (subst (λ (raw : RawFile). IfOk result (λ answer. IsAnswer version doc (see_file raw) given answer)) c.raw-syntax.ensures
+    (subst (λ (raw : RawFile). IfOk result (λ answer. IsAnswer version doc (see_file raw) given answer)) raw_is
     (c.answer_of.ensures version doc given c.len.ensures.count judged
-    (subst (λ (raw : RawFile). AllFollow version (nothing_made doc (see_file raw)) [] given) (sym c.raw-syntax.ensures) follow)))
+    (subst (λ (raw : RawFile). AllFollow version (nothing_made doc (see_file raw)) [] given) (sym raw_is) follow)))

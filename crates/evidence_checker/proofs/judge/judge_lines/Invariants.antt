@@ -7,8 +7,8 @@ use Rattle.evidence_checker.proofs.judge.judge_lines.Given as goal
 
 abbrev pub invariant-loop-before : goal.invariant-loop-before
 invariant-loop-before l = record {
-  file : l.store.file.now ≡ l.initial.store.file.now;
-  behind : IsKnownBehind l.written (see_store l.initial.store) (take l.before l.evidence.lines) (see_store l.store);
+  file : l.store.file.now ≡ l.fn.store.file.now;
+  behind : IsKnownBehind l.written (see_store l.fn.store) (take l.before l.evidence.lines) (see_store l.store);
   judged : AreJudged (take l.before l.evidence.lines) l.judged.of.items;
   sites : length l.judged.of.items ≡ length (see_store l.store).file.places;
   sound : AreSound (see_store l.store) (take l.before l.evidence.lines);

@@ -5,7 +5,8 @@ use Rattle.guard_syntax.specs.Syntax as sx
 use Rattle.evidence_lookups.specs.code.Grounds.{known_of, lines_of, version_of}
 use Rattle.evidence_lookups.proofs.PartsSeen.{body-site}
 use Rattle.evidence_checker.proofs.FirstSaid.{conds-site}
-use Rattle.evidence_checker.proofs.PartForms.{block-seen, call-seen, kind-other, kind-same, kinds-seen, part-decided, refer-seen, test-seen, when-seen}
+use Rattle.rule_names.proofs.Shapes.{block-seen, call-seen, kinds-seen, when-seen}
+use Rattle.evidence_checker.proofs.PartForms.{kind-other, kind-same, part-decided, refer-seen, test-seen}
 use Rattle.evidence_checker.proofs.PartsKinds.{other-kind}
 use Rattle.evidence_checker.proofs.parts.part_follows.Goals as goal
 

@@ -1,4 +1,4 @@
-use Rattle.std.proofs.Common.{Option, Some, IfOk, MatchBool, ap, subst, sym, ◌∙◌}
+use Rattle.std.proofs.Common.{Option, Some, IfOk, MatchBool, ap, subst, sym, true≢false, ◌∙◌}
 use Rattle.std.proofs.lemmas.Result.{IfOk-weaker}
 use Rattle.guard_syntax.specs.code.Seen.{see_query}
 use Rattle.rule_names.specs.Pieces.{OfStep, Piece}
@@ -50,3 +50,6 @@ returns-in-Some-Part c = record {
       (ap (λ (p : code.Piece). Some (see_piece p)) (sym c.in-Some-Part.field-0-is) ∙ c.in-Some-Part.ensures) c.types_follow.ensures.follows;
   known = c.types_follow.ensures.known;
 }
+
+pub returns-in_default-2-clause-known : goal.returns-in_default-2-clause-known
+returns-in_default-2-clause-known c = λ e. absurd (true≢false (sym e))

@@ -1,11 +1,13 @@
-use Rattle.std.proofs.Common.{◌≡◌, sym, ◌∙◌}
+use Rattle.std.proofs.Common.{◌≡◌, ap, sym, ◌∙◌, true≢false}
+use Rattle.std.specs.List.{list_all}
 use Rattle.guard_syntax.specs.code.Seen.{see_part}
 use Rattle.rule_meaning.specs.Places.{rows_at_type}
+use Rattle.rule_meaning.specs.StoreModel.{is_known}
 use Rattle.evidence_lookups.specs.code.Grounds.{file_in, known_of, lines_of}
 use Rattle.evidence_lookups.proofs.SaidKnown.{value-said-known}
 use Rattle.evidence_lookups.proofs.SitesWithin.{site-within}
-use Rattle.evidence_checker.proofs.StepLines.{no-cites}
-use Rattle.evidence_checker.proofs.TypeLines.{kinds-seen, types-due}
+use Rattle.evidence_checker.proofs.StepLines.{no-cites, rows-same}
+use Rattle.evidence_checker.proofs.TypeLines.{kinds-seen, types-due, types-of-kind, types-uncited, types-unframed}
 use Rattle.evidence_checker.proofs.rows.types_follow.Goals as goal
 
 pub kinds-requires-clause-site : goal.kinds-requires-clause-site
@@ -20,3 +22,16 @@ returns-clause-follows c =
     types-due (known_of c.args.context.now) (lines_of c.args.context.now) c.args.line.frame c.args.line.site c.args.line.cites.now c.in-Some.current (sym c.in-Some.ensures) (no-cites c.args.line.cites.now c.in-empty.len_below)
     c.args.line.kind (see_part c.args.part.now) c.args.rows.now c.deref.result.now c.same_rows.result c.in-Types.is (kinds-seen c.args.part.now c.in-Kinds.site c.in-Kinds.name c.in-Kinds.cond c.in-Kinds.body c.in-Kinds.is)
     (c.deref.ensures.value ∙ due) c.same_rows.ensures
+
+pub returns-clause-known : goal.returns-clause-known
+returns-clause-known c = λ same.
+    ap (list_all (is_known (known_of c.args.context.now))) (rows-same c.same_rows.result c.args.rows.now c.deref.result.now c.same_rows.ensures same ∙ c.deref.ensures.value) ∙ c.in_ok-due.ensures.known
+
+pub returns-in_default : goal.returns-in_default
+returns-in_default c = record { follows = λ more. types-of-kind (known_of c.args.context.now) (lines_of c.args.context.now) c.args.line.frame c.args.line.site c.args.line.cites.now c.args.line.kind (see_part c.args.part.now) c.args.rows.now more c.in_default.not-Types; known = λ e. absurd (true≢false (sym e)) }
+
+pub returns-in_default-cites : goal.returns-in_default-cites
+returns-in_default-cites c = record { follows = λ more. types-uncited (known_of c.args.context.now) (lines_of c.args.context.now) c.args.line.frame c.args.line.site c.args.line.cites.now c.args.line.kind (see_part c.args.part.now) c.args.rows.now more c.in_default-cites.len_at_least; known = λ e. absurd (true≢false (sym e)) }
+
+pub returns-in_default-value_of : goal.returns-in_default-value_of
+returns-in_default-value_of c = record { follows = λ more. types-unframed (known_of c.args.context.now) (lines_of c.args.context.now) c.args.line.frame c.args.line.site c.args.line.cites.now c.args.line.kind (see_part c.args.part.now) c.args.rows.now more c.in_default-value_of.ensures; known = λ e. absurd (true≢false (sym e)) }

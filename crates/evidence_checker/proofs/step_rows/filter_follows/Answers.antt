@@ -1,6 +1,7 @@
-use Rattle.std.proofs.Common.{◌≡◌, ℕ, [], ap, length, sym, true≢false, subst, ◌∙◌, List, MatchOption, None, Option, Some, Vec, Global}
+use Rattle.std.proofs.Common.{◌≡◌, ℕ, Bool, [], ap, length, sym, true≢false, subst, ◌∙◌, List, MatchOption, None, Option, Some, Vec, Global}
 use Rattle.std.specs.List.{list_all}
 use Rattle.std.proofs.lemmas.Option.{none-some}
+use Rattle.std.proofs.lemmas.Result.{IfOk-weaker}
 use Rattle.evidence_lines.specs.declared.line.Line.{Line}
 use Rattle.guard_syntax.specs.code.Seen.{see_conds, see_query}
 use Rattle.guard_syntax.specs.Syntax.{Conds}
@@ -8,11 +9,11 @@ use Rattle.guard_syntax.specs.declared.row.Ref.{Ref}
 use Rattle.guard_syntax.specs.declared.row.Row.{Row}
 use Rattle.guard_syntax.specs.declared.row.Verdict.{Verdict}
 use Rattle.rule_meaning.specs.StoreModel.{StoreModel, is_known}
-use Rattle.evidence_rules.specs.Follows.{FollowsFilter, SayEach, SaysCandidate}
+use Rattle.evidence_rules.specs.Follows.{FollowsFilter, IsLater, SayEach, SaysCandidate}
 use Rattle.rule_meaning.specs.Places.{candidates_at, rows_at_step}
 use Rattle.evidence_lookups.specs.code.Grounds.{file_in, known_of, lines_of}
 use Rattle.evidence_lookups.proofs.SaidKnown.{before-said-known, value-said-known}
-use Rattle.evidence_checker.proofs.StepLines.{filter-due, filter-lacks, later-judged, never-later, never-start, none-taken, said-each, some-taken, start-bare}
+use Rattle.evidence_checker.proofs.StepLines.{IsJudgedSo, filter-due, filter-lacks, later-judged, never-later, never-start, none-taken, said-each, some-taken, start-bare}
 use Rattle.evidence_checker.proofs.step_rows.filter_follows.Goals as goal
 
 -- one verdict for each value that is tried
@@ -52,51 +53,70 @@ returns-in_default-rows_before c = record {
 pub returns-in_default-2-clause-known : goal.returns-in_default-2-clause-known
 returns-in_default-2-clause-known c = λ e. absurd (true≢false (sym e))
 
-pub due_rows-requires-clause-start : goal.due_rows-requires-clause-start
-due_rows-requires-clause-start c start =
+pub are_due-requires-clause-start : goal.are_due-requires-clause-start
+are_due-requires-clause-start c start =
     let b = c.in-Some-rows_before.ensures in
-    c.as_slice-before.ensures ∙ c.in_ok-gathered.ensures
+    c.as_slice-2.ensures ∙ c.in_ok-before.ensures
     ∙ start-bare (known_of c.args.context.now) (lines_of c.args.context.now) c.args.line.frame (see_query c.args.at.query.now) (file_in c.args.context.now) c.args.line.site c.args.at.index b.0 c.in-Some-rows_before.before c.requires.placed b.2 start
 
-pub due_candidates-requires-clause-known : goal.due_candidates-requires-clause-known
-due_candidates-requires-clause-known c =
+pub verdicts_due-requires-clause-known : goal.verdicts_due-requires-clause-known
+verdicts_due-requires-clause-known c =
     let b = c.in-Some-rows_before.ensures in
-    ap (list_all (is_known (known_of c.args.context.now))) (c.as_slice-before.ensures ∙ c.in_ok-gathered.ensures)
+    ap (list_all (is_known (known_of c.args.context.now))) (c.as_slice.ensures ∙ c.in_ok-before.ensures)
     ∙ before-said-known (known_of c.args.context.now) (lines_of c.args.context.now) c.args.context.now.sound c.args.line.frame (see_query c.args.at.query.now) c.args.at.index b.0 c.in-Some-rows_before.before b.2
 
 pub returns-in_default-2-clause-follows : goal.returns-in_default-2-clause-follows
 returns-in_default-2-clause-follows c =
     let b = c.in-Some-rows_before.ensures in
-    let tried : c.in_ok-tried.tried.items ≡ candidates_at (known_of c.args.context.now) c.args.line.site c.in-Some-rows_before.before = c.in_ok-tried.ensures ∙ ap (candidates_at (known_of c.args.context.now) c.args.line.site) (c.as_slice-before.ensures ∙ c.in_ok-gathered.ensures) in
+    let rows : c.as_slice.result.now ≡ c.in-Some-rows_before.before = c.as_slice.ensures ∙ c.in_ok-before.ensures in
     never-later c.args.at.index (FollowsFilter (known_of c.args.context.now) (lines_of c.args.context.now) c.args.line.frame c.args.line.site (see_query c.args.at.query.now) c.args.at.index (see_conds c.args.conditions.now) c.args.line.cites.now c.args.rows.now)
     (filter-lacks (known_of c.args.context.now) (lines_of c.args.context.now) c.args.line.frame (see_query c.args.at.query.now) c.args.line.site c.args.at.index c.in-Some.current b.0 c.in-Some-rows_before.last.now c.args.line.cites.now c.in-Some-rows_before.before (sym c.in-Some.ensures) b.1 b.2
-    (see_conds c.args.conditions.now) c.deref.result.now c.args.rows.now (c.deref.ensures.value ∙ tried)
-    (none-said (known_of c.args.context.now) (lines_of c.args.context.now) c.args.line.frame c.args.line.site (see_conds c.args.conditions.now) c.deref.result.now c.in-Some-rows_before.last.now c.in_ok-verdicts.field-0 c.in_default-2.is (c.in_ok-verdicts.ensures (known_of c.args.context.now))))
+    (see_conds c.args.conditions.now) (candidates_at (known_of c.args.context.now) c.args.line.site c.as_slice.result.now) c.args.rows.now (ap (candidates_at (known_of c.args.context.now) c.args.line.site) rows)
+    (none-said (known_of c.args.context.now) (lines_of c.args.context.now) c.args.line.frame c.args.line.site (see_conds c.args.conditions.now) (candidates_at (known_of c.args.context.now) c.args.line.site c.as_slice.result.now) c.in-Some-rows_before.last.now c.in_ok-verdicts.field-0 c.in_default-2.is c.in_ok-verdicts.ensures))
 
-pub due_rows-requires-clause-verdicts : goal.due_rows-requires-clause-verdicts
-due_rows-requires-clause-verdicts c =
-    let tried : c.in_ok-tried.tried.items ≡ candidates_at (known_of c.args.context.now) c.args.line.site c.as_slice-before.result.now = c.in_ok-tried.ensures in
-    ap length c.deref-2.ensures.value ∙ (said-each (known_of c.args.context.now) (lines_of c.args.context.now) (SaysCandidate (known_of c.args.context.now) (lines_of c.args.context.now) c.args.line.frame c.args.line.site (see_conds c.args.conditions.now)) c.deref.result.now c.in-Some-rows_before.last.now c.in-Some-2.verdicts.items
-    (some-said (known_of c.args.context.now) (lines_of c.args.context.now) c.args.line.frame c.args.line.site (see_conds c.args.conditions.now) c.deref.result.now c.in-Some-rows_before.last.now c.in_ok-verdicts.field-0 c.in-Some-2.verdicts c.in-Some-2.is (c.in_ok-verdicts.ensures (known_of c.args.context.now)))).1 ∙ ap length (c.deref.ensures.value ∙ tried)
+pub are_due-requires-clause-verdicts : goal.are_due-requires-clause-verdicts
+are_due-requires-clause-verdicts c =
+    let tried = candidates_at (known_of c.args.context.now) c.args.line.site c.as_slice.result.now in
+    let same : c.as_slice.result.now ≡ c.as_slice-2.result.now = c.as_slice.ensures ∙ sym c.as_slice-2.ensures in
+    ap length c.deref.ensures.value
+    ∙ (said-each (known_of c.args.context.now) (lines_of c.args.context.now) (SaysCandidate (known_of c.args.context.now) (lines_of c.args.context.now) c.args.line.frame c.args.line.site (see_conds c.args.conditions.now)) tried c.in-Some-rows_before.last.now c.in-Some-2.verdicts.items
+    (some-said (known_of c.args.context.now) (lines_of c.args.context.now) c.args.line.frame c.args.line.site (see_conds c.args.conditions.now) tried c.in-Some-rows_before.last.now c.in_ok-verdicts.field-0 c.in-Some-2.verdicts c.in-Some-2.is c.in_ok-verdicts.ensures)).1
+    ∙ ap (λ (rows : List Row). length (candidates_at (known_of c.args.context.now) c.args.line.site rows)) same
 
-pub due_rows-requires-clause-current : goal.due_rows-requires-clause-current
-due_rows-requires-clause-current c = value-said-known (known_of c.args.context.now) (lines_of c.args.context.now) c.args.context.now.sound c.args.line.frame c.in-Some.current (sym c.in-Some.ensures)
+pub are_due-requires-clause-current : goal.are_due-requires-clause-current
+are_due-requires-clause-current c = value-said-known (known_of c.args.context.now) (lines_of c.args.context.now) c.args.context.now.sound c.args.line.frame c.in-Some.current (sym c.in-Some.ensures)
 
-pub due_rows-requires-clause-before : goal.due_rows-requires-clause-before
-due_rows-requires-clause-before c =
+pub are_due-requires-clause-before : goal.are_due-requires-clause-before
+are_due-requires-clause-before c =
     let b = c.in-Some-rows_before.ensures in
-    ap (list_all (is_known (known_of c.args.context.now))) (c.as_slice-before.ensures ∙ c.in_ok-gathered.ensures)
+    ap (list_all (is_known (known_of c.args.context.now))) (c.as_slice-2.ensures ∙ c.in_ok-before.ensures)
     ∙ before-said-known (known_of c.args.context.now) (lines_of c.args.context.now) c.args.context.now.sound c.args.line.frame (see_query c.args.at.query.now) c.args.at.index b.0 c.in-Some-rows_before.before b.2
 
-pub returns-clause-follows : goal.returns-clause-follows
-returns-clause-follows c =
+pub returns : goal.returns
+returns c =
+    let k = known_of c.args.context.now in
+    let lines = lines_of c.args.context.now in
+    let site = c.args.line.site in
+    let q = see_query c.args.at.query.now in
+    let index = c.args.at.index in
+    let conditions = see_conds c.args.conditions.now in
     let b = c.in-Some-rows_before.ensures in
-    let tried : c.in_ok-tried.tried.items ≡ candidates_at (known_of c.args.context.now) c.args.line.site c.in-Some-rows_before.before = c.in_ok-tried.ensures ∙ ap (candidates_at (known_of c.args.context.now) c.args.line.site) (c.as_slice-before.ensures ∙ c.in_ok-gathered.ensures) in
-    let due : c.in_ok-due.due.items ≡ rows_at_step (known_of c.args.context.now) c.args.line.site c.in-Some.current c.in-Some-rows_before.before [] c.deref-2.result.now =
-    c.in_ok-due.ensures.rows ∙ ap (λ (b : List Row). rows_at_step (known_of c.args.context.now) c.args.line.site c.in-Some.current b [] c.deref-2.result.now) (c.as_slice-before.ensures ∙ c.in_ok-gathered.ensures) in
-    later-judged c.args.at.index c.same_rows.result (FollowsFilter (known_of c.args.context.now) (lines_of c.args.context.now) c.args.line.frame c.args.line.site (see_query c.args.at.query.now) c.args.at.index (see_conds c.args.conditions.now) c.args.line.cites.now c.args.rows.now) c.if-index-eq0.false
-    (filter-due (known_of c.args.context.now) (lines_of c.args.context.now) c.args.line.frame (see_query c.args.at.query.now) c.args.line.site c.args.at.index c.in-Some.current b.0 c.in-Some-rows_before.last.now c.args.line.cites.now c.in-Some-rows_before.before (sym c.in-Some.ensures) b.1 b.2
-    (see_conds c.args.conditions.now) c.deref.result.now c.deref-2.result.now c.args.rows.now c.deref-3.result.now c.same_rows.result (c.deref.ensures.value ∙ tried)
-    (subst (λ (verdicts : List Verdict). Said (known_of c.args.context.now) (lines_of c.args.context.now) c.args.line.frame c.args.line.site (see_conds c.args.conditions.now) c.deref.result.now c.in-Some-rows_before.last.now verdicts) (sym c.deref-2.ensures.value)
-    (some-said (known_of c.args.context.now) (lines_of c.args.context.now) c.args.line.frame c.args.line.site (see_conds c.args.conditions.now) c.deref.result.now c.in-Some-rows_before.last.now c.in_ok-verdicts.field-0 c.in-Some-2.verdicts c.in-Some-2.is (c.in_ok-verdicts.ensures (known_of c.args.context.now))))
-    (c.deref-3.ensures.value ∙ due) c.same_rows.ensures)
+    let before = c.in-Some-rows_before.before in
+    let last = c.in-Some-rows_before.last.now in
+    let cites = c.args.line.cites.now in
+    let current = c.in-Some.current in
+    let tried = candidates_at k site c.as_slice.result.now in
+    let rows : c.as_slice.result.now ≡ before = c.as_slice.ensures ∙ c.in_ok-before.ensures in
+    let due : rows_at_step k site current c.as_slice-2.result.now [] c.deref.result.now ≡ rows_at_step k site current before [] c.deref.result.now =
+    ap (λ (rs : List Row). rows_at_step k site current rs [] c.deref.result.now) (c.as_slice-2.ensures ∙ c.in_ok-before.ensures) in
+    let said = subst (λ (verdicts : List Verdict). Said k lines c.args.line.frame site conditions tried last verdicts) (sym c.deref.ensures.value)
+    (some-said k lines c.args.line.frame site conditions tried last c.in_ok-verdicts.field-0 c.in-Some-2.verdicts c.in-Some-2.is c.in_ok-verdicts.ensures) in
+    record {
+      follows = IfOk-weaker c.are_due.result (λ (x : Bool). IsJudgedSo x (c.args.rows.now ≡ rows_at_step k site current c.as_slice-2.result.now [] c.deref.result.now))
+          (λ (x : Bool). IsJudgedSo x (IsLater index × FollowsFilter k lines c.args.line.frame site q index conditions cites c.args.rows.now))
+          (λ x judged. later-judged index x (FollowsFilter k lines c.args.line.frame site q index conditions cites c.args.rows.now) c.if-index-eq0.false
+          (filter-due k lines c.args.line.frame q site index current b.0 last cites before (sym c.in-Some.ensures) b.1 b.2 conditions tried c.deref.result.now c.args.rows.now
+          (rows_at_step k site current c.as_slice-2.result.now [] c.deref.result.now) x (ap (candidates_at k site) rows) said due judged))
+          c.are_due.ensures.due;
+      known = c.are_due.ensures.known;
+    }

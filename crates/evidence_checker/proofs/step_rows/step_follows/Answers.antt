@@ -3,7 +3,7 @@ use Rattle.evidence_lines.specs.declared.line.LineKind.TheVariants as kind
 use Rattle.guard_syntax.specs.code.Seen.{see_conds, see_expr, see_query, see_step}
 use Rattle.guard_syntax.specs.Syntax.{filter, keys}
 use Rattle.guard_syntax.specs.declared.syntax.Step.{Step}
-use Rattle.rule_meaning.specs.Places.{step_in, steps_in}
+use Rattle.rule_meaning.specs.Places.{is_filter, step_in, steps_in}
 use Rattle.evidence_lookups.specs.code.Grounds.{known_of, lines_of}
 use Rattle.evidence_lookups.proofs.PartsSeen.{no-step, step-there}
 use Rattle.evidence_checker.proofs.StepKinds.{at-kind, at-other, filter-else, keys-else, no-step-line, not-at, other-else, same-capture, same-step}
@@ -136,3 +136,27 @@ returns-in_default-kind-3 c =
       follows = not-at k ls c.args.line.frame c.args.line.site q c.args.index c.args.line.cites.now c.args.rows.now c.args.line.kind (step_in (steps_in q) c.args.index) s there (other-else k ls c.args.line.frame c.args.line.site q c.args.index c.args.line.cites.now c.args.rows.now c.args.line.kind s c.in_default-kind-3.not-Step other);
       known = λ e. absurd (true≢false (sym e));
     }
+
+pub invariant_of-at-in-Step : goal.invariant_of-at-in-Step
+invariant_of-at-in-Step c = record { within = subst (λ (ss : List Step). c.args.index < length ss) c.deref.ensures.value c.in-Some.ensures.lookup.3.0 }
+
+pub invariant_of-at-in-Keys-kind : goal.invariant_of-at-in-Keys-kind
+invariant_of-at-in-Keys-kind c = record { within = subst (λ (ss : List Step). c.args.index < length ss) c.deref.ensures.value c.in-Some.ensures.lookup.3.0 }
+
+pub returns-in_default-clause-known : goal.returns-in_default-clause-known
+returns-in_default-clause-known c = λ e. absurd (true≢false (sym e))
+
+pub returns-in-Filter-kind-clause-known : goal.returns-in-Filter-kind-clause-known
+returns-in-Filter-kind-clause-known c = c.filter_follows.ensures.known
+
+pub returns-in-Capture-clause-known : goal.returns-in-Capture-clause-known
+returns-in-Capture-clause-known c = c.capture_follows.ensures.known
+
+pub returns-in-Keys-kind-clause-known : goal.returns-in-Keys-kind-clause-known
+returns-in-Keys-kind-clause-known c = c.other_follows.ensures.known
+
+pub returns-in-Capture-kind-clause-known : goal.returns-in-Capture-kind-clause-known
+returns-in-Capture-kind-clause-known c = c.capture_follows-in-Capture-kind.ensures.known
+
+pub other_follows-requires-clause-other : goal.other_follows-requires-clause-other
+other_follows-requires-clause-other c = ap is_filter (keys-seen c.in-Some.step.now c.in-Keys.capture c.in-Keys.op c.in-Keys.not c.in-Keys.right c.in-Keys.is)

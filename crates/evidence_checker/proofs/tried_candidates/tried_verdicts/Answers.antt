@@ -1,4 +1,4 @@
-use Rattle.std.proofs.Common.{ℕ, List, arith, false, get_or, refl, subst, sym, []}
+use Rattle.std.proofs.Common.{ℕ, ◌<◌, List, arith, false, get_or, refl, subst, sym, []}
 use Rattle.evidence_lines.specs.declared.line.Line.{Line}
 use Rattle.evidence_lines.specs.declared.line.LineKind.TheVariants as kind
 use Rattle.evidence_lines.specs.declared.line.Outcome.TheVariants as says
@@ -51,3 +51,9 @@ pub loop-i-init : goal.loop-i-init
 loop-i-init c = λ known.
     subst (λ (ws : List Verdict). SayEach known c.args.lines.now (SaysCandidate known c.args.lines.now c.args.line.frame c.args.line.site (see_conds c.args.conditions.now)) [] [] ws)
     (sym c.new-verdicts.ensures.items) tt
+
+pub bounds-values-i : goal.bounds-values-i
+bounds-values-i c = c.loop-i-test.true
+
+pub bounds-cites-i : goal.bounds-cites-i
+bounds-cites-i c = subst (λ (n : ℕ). c.loop-i.i < n) c.if-values-cites.false c.loop-i-test.true
