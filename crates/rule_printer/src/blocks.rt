@@ -137,6 +137,6 @@ fn push_part(alloc: Global, out: &mut String, margin: &str, part: &Part) -> Resu
             push_when(out, cond)?;
             push_body(alloc, out, margin, body)
         }
-        Part::Test { .. } | Part::Refer { .. } | Part::Call { .. } => push_cond(out, part),
+        _ => push_cond(out, part),
     }
 }

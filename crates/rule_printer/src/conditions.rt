@@ -5,10 +5,11 @@ ghost use Rattle.rule_printer.specs.RuleText.{alternatives_text, asked_text, con
 ghost use Rattle.rule_printer.specs.code.Printing.{step_in};
 
 use crate::literals::push_literal;
-use crate::names::{push_function_name, push_key, push_keys_test, push_opened, push_signed};
+use crate::names::{push_function_name, push_key, push_keys_test, push_opened};
 use crate::starts::push_space_within;
 use crate::words::{
-    push_between, push_index, push_note, push_rule_name, push_spaced_operator, push_word_if,
+    push_between, push_index, push_note, push_rule_name, push_signed, push_spaced_operator,
+    push_word_if,
 };
 use guard_syntax::{Conds, Expr, Part, Query, Step, StepForm};
 use std::alloc::AllocError;
@@ -79,7 +80,7 @@ pub(crate) fn push_cond(out: &mut String, part: &Part) -> Result<(), AllocError>
             push_arguments(out, args)?;
             push_note(out, note)
         }
-        Part::Block { .. } | Part::When { .. } | Part::Kinds { .. } => Ok(()),
+        _ => Ok(()),
     }
 }
 

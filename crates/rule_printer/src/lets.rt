@@ -5,6 +5,7 @@ ghost use Rattle.rule_printer.specs.RuleText.{in_a_row, let_line, merged};
 ghost use Rattle.rule_printer.specs.code.Printing.{lets_from};
 
 use crate::conditions::push_expr;
+use crate::words::push_signed;
 use guard_syntax::Let;
 use std::alloc::AllocError;
 
@@ -13,8 +14,7 @@ fn push_let(out: &mut String, margin: &str, given: &Let) -> Result<(), AllocErro
     ensures { OnOk result (string_bytes out.new ≡ string_bytes out.old ++ (let_line margin.now (see_let given.now)).1) }
 {
     out.push_str(margin)?;
-    out.push_str("let ")?;
-    out.push_str(given.name.as_str())?;
+    push_signed(out, "let ", given.name.as_str())?;
     out.push_str(" = ")?;
     push_expr(out, &given.value)?;
     out.push_str("\n")

@@ -169,14 +169,6 @@ pub(crate) fn push_function_name(out: &mut String, name: &str) -> Result<(), All
     push_space_behind(out, name)
 }
 
-/// Appends a name behind its sign.
-pub(crate) fn push_signed(out: &mut String, sign: &str, name: &str) -> Result<(), AllocError>
-    ensures { OnOk result (string_bytes out.new ≡ (string_bytes out.old ++ sign.now) ++ name.now) }
-{
-    out.push_str(sign)?;
-    out.push_str(name)
-}
-
 /// Appends the capture of a filter, if it has one.
 fn push_capture(out: &mut String, capture: &Option<Name>) -> Result<(), AllocError>
     ensures { OnOk result (string_bytes out.new ≡ string_bytes out.old ++ capture_text capture.now) }

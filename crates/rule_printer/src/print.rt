@@ -7,7 +7,8 @@ ghost use Rattle.rule_printer.specs.code.Printing.{lets_from, rules_from};
 use crate::blocks::{push_body, push_disj, push_when};
 use crate::lets::{push_lets, push_lets_before};
 use crate::names::push_params;
-use guard_syntax::{RawFile, Rule};
+use crate::words::push_signed;
+use guard_syntax::{Let, RawFile, Rule};
 use std::alloc::{AllocError, Global};
 
 /// The first let and the first rule of a file that are not appended yet.
@@ -21,8 +22,7 @@ struct Next {
 fn push_rule(alloc: Global, out: &mut String, rule: &Rule) -> Result<(), AllocError>
     ensures { OnOk result (string_bytes out.new ≡ string_bytes out.old ++ (rule_line (see_rule rule.now)).1) }
 {
-    out.push_str("rule ")?;
-    out.push_str(rule.name.as_str())?;
+    push_signed(out, "rule ", rule.name.as_str())?;
     push_params(out, rule.params.as_slice())?;
     push_when(out, &rule.cond)?;
     push_body(alloc, out, "", &rule.body)?;
@@ -33,58 +33,67 @@ fn push_rule(alloc: Global, out: &mut String, rule: &Rule) -> Result<(), AllocEr
 fn push_before(
     alloc: Global,
     out: &mut String,
-    file: &RawFile,
+    lets: &[Let],
+    rules: &[Rule],
     from: Next,
     site: u32,
 ) -> Result<Next, AllocError>
     ensures { IfOk result (λ next. (text : List ℕ) (others : List (ℕ × List ℕ)) →
-        string_bytes out.new ++ in_a_row ((site, text) ∷ merged (lets_from [] file.now.lets.items next.at_let) (merged (rules_from file.now.rules.items next.at_rule) others))
-        ≡ string_bytes out.old ++ in_a_row (merged (lets_from [] file.now.lets.items from.at_let) (merged (rules_from file.now.rules.items from.at_rule) ((site, text) ∷ others)))) }
+        string_bytes out.new ++ in_a_row ((site, text) ∷ merged (lets_from [] lets.now next.at_let) (merged (rules_from rules.now next.at_rule) others))
+        ≡ string_bytes out.old ++ in_a_row (merged (lets_from [] lets.now from.at_let) (merged (rules_from rules.now from.at_rule) ((site, text) ∷ others)))) }
 {
     let mut at_let = from.at_let;
-    for at_rule in from.at_rule..file.rules.len() {
-        let rule = &file.rules[at_rule];
+    for at_rule in from.at_rule..rules.len() {
+        let rule = &rules[at_rule];
         if site < rule.site {
-            at_let = push_lets_before(out, "", &file.lets, at_let, site)?;
+            at_let = push_lets_before(out, "", lets, at_let, site)?;
             return Ok(Next { at_let, at_rule });
         }
-        at_let = push_lets_before(out, "", &file.lets, at_let, rule.site)?;
+        at_let = push_lets_before(out, "", lets, at_let, rule.site)?;
         push_rule(alloc, out, rule)?;
     }
-    at_let = push_lets_before(out, "", &file.lets, at_let, site)?;
+    at_let = push_lets_before(out, "", lets, at_let, site)?;
     Ok(Next {
         at_let,
-        at_rule: file.rules.len(),
+        at_rule: rules.len(),
     })
 }
 
 /// Appends the lines of the lets and rules that are left.
-fn push_left(alloc: Global, out: &mut String, file: &RawFile, from: Next) -> Result<(), AllocError>
-    ensures { OnOk result (string_bytes out.new ≡ string_bytes out.old ++ in_a_row (merged (lets_from [] file.now.lets.items from.at_let) (rules_from file.now.rules.items from.at_rule))) }
+fn push_left(
+    alloc: Global,
+    out: &mut String,
+    lets: &[Let],
+    rules: &[Rule],
+    from: Next,
+) -> Result<(), AllocError>
+    ensures { OnOk result (string_bytes out.new ≡ string_bytes out.old ++ in_a_row (merged (lets_from [] lets.now from.at_let) (rules_from rules.now from.at_rule))) }
 {
     let mut at_let = from.at_let;
-    for at_rule in from.at_rule..file.rules.len() {
-        let rule = &file.rules[at_rule];
-        at_let = push_lets_before(out, "", &file.lets, at_let, rule.site)?;
+    for at_rule in from.at_rule..rules.len() {
+        let rule = &rules[at_rule];
+        at_let = push_lets_before(out, "", lets, at_let, rule.site)?;
         push_rule(alloc, out, rule)?;
     }
-    push_lets(out, "", &file.lets, at_let)
+    push_lets(out, "", lets, at_let)
 }
 
 /// Appends the lines of a file.
 fn push_file(alloc: Global, out: &mut String, file: &RawFile) -> Result<(), AllocError>
     ensures { OnOk result (string_bytes out.new ≡ string_bytes out.old ++ rule_text (see_file file.now)) }
 {
+    let lets = file.lets.as_slice();
+    let rules = file.rules.as_slice();
+    let disjs = file.loose.as_slice();
     let mut next = Next {
         at_let: 0,
         at_rule: 0,
     };
-    let disjs = file.loose.as_slice();
     for disj in disjs {
-        next = push_before(alloc, out, file, next, disj.site)?;
+        next = push_before(alloc, out, lets, rules, next, disj.site)?;
         push_disj(alloc, out, "", disj)?;
     }
-    push_left(alloc, out, file, next)
+    push_left(alloc, out, lets, rules, next)
 }
 
 /// The canonical text of a rule file.

@@ -15,14 +15,7 @@ fn is_r(step: &Step) -> bool
 {
     match &step.form {
         StepForm::Key(name) => name.as_str() == "r",
-        StepForm::This
-        | StepForm::Var(_)
-        | StepForm::Index(_)
-        | StepForm::Every
-        | StepForm::Items
-        | StepForm::Splice(_)
-        | StepForm::Filter(_, _)
-        | StepForm::Keys { .. } => false,
+        _ => false,
     }
 }
 
@@ -30,15 +23,10 @@ fn is_r(step: &Step) -> bool
 fn is_bracketed(step: &Step) -> bool
     ensures { result ≡ is_bracketed (see_step step.now) }
 {
-    match &step.form {
-        StepForm::Items | StepForm::Filter(_, _) | StepForm::Keys { .. } => true,
-        StepForm::This
-        | StepForm::Var(_)
-        | StepForm::Key(_)
-        | StepForm::Index(_)
-        | StepForm::Every
-        | StepForm::Splice(_) => false,
-    }
+    matches!(
+        &step.form,
+        StepForm::Items | StepForm::Filter(_, _) | StepForm::Keys { .. }
+    )
 }
 
 /// Appends the space behind the first step of an expression, where a range would begin without it.
@@ -72,13 +60,6 @@ fn key_of(step: &Step) -> Option<&str>
 {
     match &step.form {
         StepForm::Key(name) => Some(name.as_str()),
-        StepForm::This
-        | StepForm::Var(_)
-        | StepForm::Index(_)
-        | StepForm::Every
-        | StepForm::Items
-        | StepForm::Splice(_)
-        | StepForm::Filter(_, _)
-        | StepForm::Keys { .. } => None,
+        _ => None,
     }
 }

@@ -28,6 +28,14 @@ pub(crate) fn push_word_if(out: &mut String, there: bool, word: &str) -> Result<
     if there { out.push_str(word) } else { Ok(()) }
 }
 
+/// Appends a name or a message behind its sign.
+pub(crate) fn push_signed(out: &mut String, sign: &str, name: &str) -> Result<(), AllocError>
+    ensures { OnOk result (string_bytes out.new ≡ (string_bytes out.old ++ sign.now) ++ name.now) }
+{
+    out.push_str(sign)?;
+    out.push_str(name)
+}
+
 fn operator_word(op: Op) -> &'static str
     ensures { result.now ≡ operator_word op }
 {
@@ -88,8 +96,7 @@ pub(crate) fn push_note(out: &mut String, note: &Option<Text>) -> Result<(), All
 {
     match note {
         Some(text) => {
-            out.push_str(" << ")?;
-            out.push_str(text.as_str())?;
+            push_signed(out, " << ", text.as_str())?;
             out.push_str(" >>")
         }
         None => Ok(()),

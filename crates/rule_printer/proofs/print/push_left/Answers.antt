@@ -1,7 +1,6 @@
-use Rattle.std.proofs.Common.{◌≡◌, ◌++◌, ◌∙◌, ◌≤◌, List, [], ap, arith, length, string_bytes}
+use Rattle.std.proofs.Common.{◌≡◌, ◌++◌, [], arith, string_bytes}
 use Rattle.std.proofs.lemmas.Grind.{common_steps}
 use Rattle.std.proofs.lemmas.Result.{on_ok_weaker}
-use Rattle.guard_syntax.specs.declared.syntax.Let.{Let}
 use Rattle.rule_printer.specs.RuleText.{in_a_row, merged}
 use Rattle.rule_printer.specs.code.Printing.{lets_from, rules_from}
 use Rattle.rule_printer.proofs.LinesInTurn.{rules-left-end}
@@ -9,15 +8,13 @@ use Rattle.rule_printer.proofs.print.push_left.Goals as goal
 
 pub returns : goal.returns
 returns c =
-    let lets = c.args.file.now.lets.items in
-    let rules = c.args.file.now.rules.items in
-    let past : length rules ≤ c.loop-at_rule.at_rule = omega (arith, c.loop-at_rule-test.false, c.len-at_rule-end.ensures) in
+    let lets = c.args.lets.now in
+    let rules = c.args.rules.now in
     let old = string_bytes c.loop-at_rule.out in
     let start = string_bytes c.args.out.now ++ in_a_row (merged (lets_from [] lets c.args.from.at_let) (rules_from rules c.args.from.at_rule)) in
     on_ok_weaker c.push_lets.result
-    (λ (e : string_bytes c.push_lets.new.out ≡ old ++ in_a_row (lets_from [] c.deref-2.result.now c.loop-at_rule.at_let)).
-    rules-left-end lets rules c.loop-at_rule.at_rule c.loop-at_rule.at_let old (string_bytes c.push_lets.new.out) start past c.loop-at_rule.invariant
-    (e ∙ ap (λ (l : List Let). old ++ in_a_row (lets_from [] l c.loop-at_rule.at_let)) c.deref-2.ensures.value))
+    (λ (e : string_bytes c.push_lets.new.out ≡ old ++ in_a_row (lets_from [] lets c.loop-at_rule.at_let)).
+    rules-left-end lets rules c.loop-at_rule.at_rule c.loop-at_rule.at_let old (string_bytes c.push_lets.new.out) start c.loop-at_rule-test.false c.loop-at_rule.invariant e)
     c.push_lets.ensures
 
 pub loop-at_rule-preserved : goal.loop-at_rule-preserved
