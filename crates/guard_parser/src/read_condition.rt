@@ -3,7 +3,7 @@
 ghost use Rattle.std.specs.Prelude.{◌≡◌, ◌≤◌, []};
 ghost use Rattle.guard_syntax.specs.code.Seen.{see_conds, see_disj, see_part, see_query, see_opt_conds, see_opt_expr};
 ghost use Rattle.literal_parser.specs.code.Reads.{Reads, state_of};
-ghost use Rattle.guard_parser.specs.code.GrammarReads.{see_disjs, see_parts, alternatives_at, called_at, cond_part_at, conds_at, some_conditions_at, some_disjs_at, named_at, opt_conds_at, right_at, tested_at};
+ghost use Rattle.guard_parser.specs.code.GrammarReads.{see_disjs, see_parts, alternatives_at, cond_part_at, conds_at, some_conditions_at, some_disjs_at, named_at, opt_conds_at, right_at, tested_at};
 
 use crate::items::add;
 use crate::lead::{Lead, lead_of};
@@ -216,7 +216,7 @@ fn right(
 
 /// What stands behind the name of a rule: arguments, or none, and a note.
 #[cycle(conditions)]
-#[tactic(auto, unfolding(crate::specs::code::Reading::referred, literal_parser::specs::code::Parser::choose))]
+#[tactic(auto, unfolding(crate::specs::code::Reading::called, crate::specs::code::Reading::referred, literal_parser::specs::code::Parser::choose))]
 pub(crate) fn ruled(
     alloc: Global,
     tokens: Tokens<'_>,
@@ -228,37 +228,21 @@ pub(crate) fn ruled(
     ensures { Reads see_part (named_at tokens.entry depth head.site head.not head.name (state_of cursor.old) cursor.old.seen) result cursor.new }
 {
     if cursor.sees(tokens, TokenTest::LParen) {
-        return called(alloc, tokens, cursor, depth, head);
+        let args = exprs(alloc, tokens, cursor, depth)?;
+        let note = note(alloc, tokens, cursor)?;
+        return Ok(Part::Call {
+            site: head.site,
+            not: head.not,
+            name: head.name,
+            args,
+            note,
+        });
     }
     let note = note(alloc, tokens, cursor)?;
     Ok(Part::Refer {
         site: head.site,
         not: head.not,
         name: head.name,
-        note,
-    })
-}
-
-/// The arguments of a rule that was named, and the note behind them.
-#[cycle(conditions)]
-#[tactic(auto, unfolding(crate::specs::code::Reading::called))]
-fn called(
-    alloc: Global,
-    tokens: Tokens<'_>,
-    cursor: &mut Cursor,
-    depth: usize,
-    head: RuleHead,
-) -> Result<Part, Halt>
-    requires room { depth ≤ 128 }
-    ensures { Reads see_part (called_at tokens.entry depth head.site head.not head.name (state_of cursor.old) cursor.old.seen) result cursor.new }
-{
-    let args = exprs(alloc, tokens, cursor, depth)?;
-    let note = note(alloc, tokens, cursor)?;
-    Ok(Part::Call {
-        site: head.site,
-        not: head.not,
-        name: head.name,
-        args,
         note,
     })
 }

@@ -10,7 +10,7 @@ use Rattle.guard_parser.specs.declared.lead.ExprForm.{ExprForm}
 use Rattle.guard_parser.specs.code.Leads.{lead_of, led_by, expr_by}
 use Rattle.guard_parser.specs.code.Reading as spec
 use Rattle.guard_parser.specs.code.Reading.{disjs, ors, steps, more_exprs_of, exprs_of, conds_of, disj_of, query_of, start_step, cond_part, headed, judged, tested, right, referred, ruled, called, applied, asked_expr, step, dotted, bracketed, keyed, filtered}
-use Rattle.guard_parser.specs.code.GrammarReads.{KeyTest, inner, see_disjs, see_parts, see_steps, see_exprs, see_key_test, alternatives_at, more_alternatives_at, cond_part_at, conds_at, disjs_at, dotted_at, items_at, closed_index_at, query_at, step_at, steps_at, expr_at, tree_expr_at, more_exprs_at, some_disjs_at, some_conditions_at, some_steps_at, closed_exprs_at, closed_exprs, arguments_at, named_at, tested_at, called_at, applied_at, filter_at, key_test_at}
+use Rattle.guard_parser.specs.code.GrammarReads.{KeyTest, inner, see_disjs, see_parts, see_steps, see_exprs, see_key_test, alternatives_at, more_alternatives_at, cond_part_at, conds_at, disjs_at, dotted_at, items_at, closed_index_at, query_at, step_at, steps_at, expr_at, tree_expr_at, more_exprs_at, some_disjs_at, some_conditions_at, some_steps_at, closed_exprs_at, closed_exprs, arguments_at, named_at, tested_at, applied_at, filter_at, key_test_at}
 use Rattle.guard_parser.proofs.CodeSteps.{then_read, then_fail, seen_as, tested_by, saw, handed, halted, halted_by, halted_adding, taken, both, then_closed, then_enclosed, then_tested, closed_by, list_begun, list_more, list_ended, list_failed, list_spent, deeper, some_of, read_whole, list_opened, item_failed, turns_spent, went_on}
 use Rattle.guard_parser.proofs.Leads.{condition_led, expr_formed}
 use Rattle.guard_parser.proofs.Rooms.{roomy_reads, full_stops, room_left, no_room}
@@ -290,36 +290,30 @@ read_condition::right-returns t c =
     (then_read _ c.in_ok-found.ensures refl)
 
 pub read_condition::ruled-returns-then-sees : goal.read_condition::ruled-returns-then-sees
+unfolding called
 read_condition::ruled-returns-then-sees t c =
-    handed see_part (named_at c.args.tokens c.args.depth c.args.head.site c.args.head.not c.args.head.name (state_of c.args.cursor.now) c.args.cursor.now.seen)
-    (called_at c.args.tokens c.args.depth c.args.head.site c.args.head.not c.args.head.name (state_of c.sees.new.self) c.sees.new.self.seen) c.called.result c.called.new.cursor
-    (saw (source c.args.tokens) is_lparen _ _ (state_of c.args.cursor.now) c.args.cursor.now.seen c.sees.ensures.token c.if-sees.true c.sees.ensures.state c.sees.ensures.seen refl) c.called.ensures
+    seen_as (saw (source c.args.tokens) is_lparen _ _ (state_of c.args.cursor.now) c.args.cursor.now.seen c.sees.ensures.token c.if-sees.true c.sees.ensures.state c.sees.ensures.seen (then_enclosed (inner c.args.tokens c.args.depth).exprs (takes (source c.args.tokens) is_rparen) (λ (es : sx.Exprs). spec.note (source c.args.tokens) >>= (λ m. pure (sx.call c.args.head.site c.args.head.not c.args.head.name es m))) (takes (source c.args.tokens) is_lparen (state_of c.sees.new.self) c.sees.new.self.seen) ∙ then_read _ c.in_ok-args.ensures (then_read _ c.in_ok-note.ensures refl)))
+    (call-made c.args.head.site c.args.head.not c.args.head.name c.in_ok-args.args c.in_ok-note.note)
+
+pub read_condition::ruled-returns-in_err-args : goal.read_condition::ruled-returns-in_err-args
+unfolding called
+read_condition::ruled-returns-in_err-args t c =
+    halted see_exprs see_part (arguments_at c.args.tokens c.args.depth (state_of c.sees.new.self) c.sees.new.self.seen)
+    (λ (es : sx.Exprs). spec.note (source c.args.tokens) >>= (λ m. pure (sx.call c.args.head.site c.args.head.not c.args.head.name es m))) (named_at c.args.tokens c.args.depth c.args.head.site c.args.head.not c.args.head.name (state_of c.args.cursor.now) c.args.cursor.now.seen) c.from_residual.result c.in_err-args.field-0.0 c.exprs.new.cursor c.exprs.new.cursor c.from_residual.ensures.1
+    (saw (source c.args.tokens) is_lparen _ _ (state_of c.args.cursor.now) c.args.cursor.now.seen c.sees.ensures.token c.if-sees.true c.sees.ensures.state c.sees.ensures.seen (then_enclosed (inner c.args.tokens c.args.depth).exprs (takes (source c.args.tokens) is_rparen) (λ (es : sx.Exprs). spec.note (source c.args.tokens) >>= (λ m. pure (sx.call c.args.head.site c.args.head.not c.args.head.name es m))) (takes (source c.args.tokens) is_lparen (state_of c.sees.new.self) c.sees.new.self.seen))) c.in_err-args.ensures
+
+pub read_condition::ruled-returns-in_err-note : goal.read_condition::ruled-returns-in_err-note
+unfolding called
+read_condition::ruled-returns-in_err-note t c =
+    halted (λ x. x) see_part (spec.note (source c.args.tokens) (state_of c.exprs.new.cursor) c.exprs.new.cursor.seen)
+    _ (named_at c.args.tokens c.args.depth c.args.head.site c.args.head.not c.args.head.name (state_of c.args.cursor.now) c.args.cursor.now.seen) c.from_residual-in_err-note.result c.in_err-note.field-0.0 c.note.new.cursor c.note.new.cursor c.from_residual-in_err-note.ensures.1
+    (saw (source c.args.tokens) is_lparen _ _ (state_of c.args.cursor.now) c.args.cursor.now.seen c.sees.ensures.token c.if-sees.true c.sees.ensures.state c.sees.ensures.seen (then_enclosed (inner c.args.tokens c.args.depth).exprs (takes (source c.args.tokens) is_rparen) (λ (es : sx.Exprs). spec.note (source c.args.tokens) >>= (λ m. pure (sx.call c.args.head.site c.args.head.not c.args.head.name es m))) (takes (source c.args.tokens) is_lparen (state_of c.sees.new.self) c.sees.new.self.seen) ∙ then_read _ c.in_ok-args.ensures refl)) c.in_err-note.ensures
 
 pub read_condition::ruled-returns : goal.read_condition::ruled-returns
 unfolding referred
 read_condition::ruled-returns t c =
-    seen_as (saw (source c.args.tokens) is_lparen _ _ (state_of c.args.cursor.now) c.args.cursor.now.seen c.sees.ensures.token c.if-sees.false c.sees.ensures.state c.sees.ensures.seen (then_read _ c.in_ok-note.ensures refl))
-    (refer-made c.args.head.site c.args.head.not c.args.head.name c.in_ok-note.note)
-
-pub read_condition::called-returns : goal.read_condition::called-returns
-unfolding called
-read_condition::called-returns t c =
-    then_enclosed (inner c.args.tokens c.args.depth).exprs (takes (source c.args.tokens) is_rparen) (λ (es : sx.Exprs). spec.note (source c.args.tokens) >>= (λ m. pure (sx.call c.args.head.site c.args.head.not c.args.head.name es m))) (takes (source c.args.tokens) is_lparen (state_of c.args.cursor.now) c.args.cursor.now.seen) ∙ then_read _ c.in_ok-args.ensures (then_read _ c.in_ok-note.ensures refl)
-    ∙ sym (ap (λ (q : sx.Part). Read q (state_of c.note.new.cursor) c.note.new.cursor.seen) (call-made c.args.head.site c.args.head.not c.args.head.name c.in_ok-args.args c.in_ok-note.note))
-
-pub read_condition::called-returns-in_err-args : goal.read_condition::called-returns-in_err-args
-unfolding called
-read_condition::called-returns-in_err-args t c =
-    halted see_exprs see_part (arguments_at c.args.tokens c.args.depth (state_of c.args.cursor.now) c.args.cursor.now.seen)
-    (λ (es : sx.Exprs). spec.note (source c.args.tokens) >>= (λ m. pure (sx.call c.args.head.site c.args.head.not c.args.head.name es m))) (called_at c.args.tokens c.args.depth c.args.head.site c.args.head.not c.args.head.name (state_of c.args.cursor.now) c.args.cursor.now.seen) c.from_residual.result c.in_err-args.field-0.0 c.exprs.new.cursor c.exprs.new.cursor c.from_residual.ensures.1
-    (then_enclosed (inner c.args.tokens c.args.depth).exprs (takes (source c.args.tokens) is_rparen) (λ (es : sx.Exprs). spec.note (source c.args.tokens) >>= (λ m. pure (sx.call c.args.head.site c.args.head.not c.args.head.name es m))) (takes (source c.args.tokens) is_lparen (state_of c.args.cursor.now) c.args.cursor.now.seen)) c.in_err-args.ensures
-
-pub read_condition::called-returns-in_err-note : goal.read_condition::called-returns-in_err-note
-unfolding called
-read_condition::called-returns-in_err-note t c =
-    halted (λ x. x) see_part (spec.note (source c.args.tokens) (state_of c.exprs.new.cursor) c.exprs.new.cursor.seen)
-    _ (called_at c.args.tokens c.args.depth c.args.head.site c.args.head.not c.args.head.name (state_of c.args.cursor.now) c.args.cursor.now.seen) c.from_residual-in_err-note.result c.in_err-note.field-0.0 c.note.new.cursor c.note.new.cursor c.from_residual-in_err-note.ensures.1
-    (then_enclosed (inner c.args.tokens c.args.depth).exprs (takes (source c.args.tokens) is_rparen) (λ (es : sx.Exprs). spec.note (source c.args.tokens) >>= (λ m. pure (sx.call c.args.head.site c.args.head.not c.args.head.name es m))) (takes (source c.args.tokens) is_lparen (state_of c.args.cursor.now) c.args.cursor.now.seen) ∙ then_read _ c.in_ok-args.ensures refl) c.in_err-note.ensures
+    seen_as (saw (source c.args.tokens) is_lparen _ _ (state_of c.args.cursor.now) c.args.cursor.now.seen c.sees.ensures.token c.if-sees.false c.sees.ensures.state c.sees.ensures.seen (then_read _ c.in_ok-note-2.ensures refl))
+    (refer-made c.args.head.site c.args.head.not c.args.head.name c.in_ok-note-2.note)
 
 pub read_query::applied-returns : goal.read_query::applied-returns
 unfolding applied

@@ -19,9 +19,6 @@ decreases-read_query::exprs l = 16 * l.depth
 abbrev pub decreases-read_query::applied : goal.decreases-read_query::applied
 decreases-read_query::applied l = 16 * l.depth + 1
 
-abbrev pub decreases-read_condition::called : goal.decreases-read_condition::called
-decreases-read_condition::called l = 16 * l.depth + 1
-
 abbrev pub decreases-read_query::step : goal.decreases-read_query::step
 decreases-read_query::step l = 16 * l.depth + 1
 
