@@ -19,5 +19,5 @@ pub mod verdict_lines;
 mod write;
 
 pub use drill::write_drill;
-pub use report::write_report;
+pub use report::{count_fails, write_report};
 pub use verdict_lines::verdicts_told;

@@ -63,6 +63,17 @@ pub fn write_report<S: Sink>(
     Ok(entries)
 }
 
+/// How many entries there are in the report on a template by evidence that was accepted, up to the most that 64 bits hold. The
+/// store holds the trees of the lines' calls.
+pub fn count_fails(alloc: Global, context: &LineContext<'_, '_, '_>) -> Result<u64, AllocError>
+    requires { IsAccepted context.now.version (known_of context.now) (lines_of context.now) }
+    ensures { (answers : Answers) → IsAnswering (world_of (known_of context.now) answers)
+        → IfOk result (λ n. n ≡ fail_count (reported (world_of (known_of context.now) answers))) }
+{
+    let all = verdict_lines(alloc, context)?;
+    count_entries(alloc, context, &all)
+}
+
 /// How many entries stand under all verdicts.
 pub(crate) fn count_entries(
     alloc: Global,
