@@ -47,6 +47,18 @@ fn is_written(alloc: Global, store: &Store<'_, '_>, text: &str, room: usize, tak
     faults == wanted && sink.faults == wanted && sink.bytes.as_slice() == taken
 }
 
+/// Whether the same is so over the rules and a template.
+fn is_taken(alloc: Global, text: &str, room: usize, taken: &[u8]) -> bool {
+    let Some(file) = file_of(alloc, RULES) else {
+        return false;
+    };
+    let Some(template) = template_of(alloc, "a") else {
+        return false;
+    };
+    let store = Store::new(alloc, &template, &file);
+    is_written(alloc, &store, text, room, taken)
+}
+
 /// Room for each line.
 const ROOM: usize = 100;
 
@@ -70,16 +82,8 @@ const LINES: &[(&str, &[u8])] = &[
 
 #[test]
 fn places_are_found_by_lines(rt: HostRuntime) {
-    let file = file_of(rt.alloc(), RULES).expect(&rt, "a file");
-    let Some(template) = template_of(rt.alloc(), "a") else {
-        panic!(rt; "no template")
-    };
-    let store = Store::new(rt.alloc(), &template, &file);
     for (text, taken) in LINES {
-        assert!(rt;
-            is_written(rt.alloc(), &store, *text, ROOM, *taken),
-            "{text}"
-        );
+        assert!(rt; is_taken(rt.alloc(), *text, ROOM, *taken), "{text}");
     }
 }
 
@@ -88,16 +92,8 @@ const LINE: &[u8] = b"  call 1:7 missing by 1:7\n";
 
 #[test]
 fn a_sink_takes_what_has_room(rt: HostRuntime) {
-    let file = file_of(rt.alloc(), RULES).expect(&rt, "a file");
-    let Some(template) = template_of(rt.alloc(), "a") else {
-        panic!(rt; "no template")
-    };
-    let store = Store::new(rt.alloc(), &template, &file);
     for room in 0..LINE.len() + 1 {
-        assert!(rt;
-            is_written(rt.alloc(), &store, RULES, room, &LINE[..room]),
-            "{room}"
-        );
+        assert!(rt; is_taken(rt.alloc(), RULES, room, &LINE[..room]), "{room}");
     }
 }
 
@@ -155,6 +151,16 @@ fn is_line_of(alloc: Global, store: &Store<'_, '_>, node: u32, wanted: &[u8]) ->
     }
 }
 
+/// The number of the first value that has another line.
+fn first_wrong(alloc: Global, store: &Store<'_, '_>) -> Option<usize> {
+    for node in 0..VALUES.len() {
+        if !is_line_of(alloc, store, node as u32, VALUES[node]) {
+            return Some(node);
+        }
+    }
+    None
+}
+
 #[test]
 fn parameters_have_their_own_places(rt: HostRuntime) {
     let file = file_of(rt.alloc(), RULES).expect(&rt, "a file");
@@ -162,10 +168,5 @@ fn parameters_have_their_own_places(rt: HostRuntime) {
         panic!(rt; "no template")
     };
     let store = Store::new(rt.alloc(), &data, &file);
-    for node in 0..VALUES.len() {
-        assert!(rt;
-            is_line_of(rt.alloc(), &store, node as u32, VALUES[node]),
-            "{node}"
-        );
-    }
+    assert_eq!(rt; first_wrong(rt.alloc(), &store), None);
 }
