@@ -1,7 +1,7 @@
 //! Evidence: lines that each say one value, the rows of one expression or one verdict, and cite the lines that they rest
 //! on. The crate holds such lines with their version. `specs/Shapes` says which fields a line has, and `specs/Headers` has the
-//! first line of each version. Whether a line follows from those that it cites is not asked here: the crate knows no rules and
-//! no templates; nor how lines are written down.
+//! first line of each version. It knows no rules and no templates, so it does not ask whether a line follows from those that
+//! it cites; and it does not say how lines are written down.
 #![tactic(auto)]
 
 pub mod evidence;

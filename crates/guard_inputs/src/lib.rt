@@ -1,7 +1,7 @@
 //! The inputs of the program `guard`: rules, a template, parameters and tests, which are loaded, read, or refused.
 //!
 //! A file is loaded by its name, no further than one byte past its limit, and tested for UTF-8. Rules are read as tokens, syntax
-//! and names, templates, parameters and tests in their format; parameters are merged into the template, cases are found in
+//! and names; templates, parameters and tests in their format. Then parameters are merged into the template, cases are found in
 //! tests, and the patterns of rules are made. What is refused has its line on err with it, which is made while the text is at
 //! hand. Nothing is evaluated or judged here, and nothing is written: the order of work is that of `guard_run`.
 #![tactic(auto)]
