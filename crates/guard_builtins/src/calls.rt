@@ -8,13 +8,13 @@ ghost use Rattle.value_compare.specs.code.Stores.{see_store};
 ghost use Rattle.guard_builtins.specs.code.Memory.{is_by_row};
 ghost use Rattle.guard_builtins.specs.code.Seen.{is_plain, see_made, see_rows};
 
-use crate::change::Change;
 use crate::functions::{count, join, rows_for, substring};
 use crate::made::Made;
 use crate::replace::regex_replace;
 use guard_syntax::{Function, Row};
 use std::alloc::{AllocError, Global};
 use value_compare::{PatternBook, Store};
+use value_functions::Change;
 
 /// What the call of a function at a site answers: a row for each row of its first argument, or its one row. It wants as many
 /// arguments as the function takes, and of `regex_replace` a book that has the pattern. Where it answers a row for each row
