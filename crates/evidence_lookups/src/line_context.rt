@@ -2,8 +2,8 @@
 ghost use Rattle.std.specs.Prelude.{◌≡◌, length, option_map};
 ghost use Rattle.rule_names.specs.Pieces.{piece_at};
 ghost use Rattle.rule_names.specs.code.Seen.{see_piece};
-ghost use Rattle.value_compare.specs.code.Books.{IsBookOf};
-ghost use Rattle.value_compare.specs.code.Stores.{see_store};
+ghost use Rattle.value_store.specs.code.Books.{IsBookOf};
+ghost use Rattle.value_store.specs.code.Stores.{see_store};
 ghost use Rattle.evidence_lookups.specs.code.JudgedSites.{AreNoted};
 ghost use Rattle.evidence_lookups.specs.code.Owned.{AreOwners};
 ghost use Rattle.evidence_lookups.specs.code.Said.{AreMadeWithin, AreSound};

@@ -4,7 +4,7 @@ ghost use Rattle.guard_syntax.specs.code.Seen.{see_body};
 ghost use Rattle.rule_names.specs.Pieces.{OfBody, piece_at};
 ghost use Rattle.rule_meaning.specs.StoreModel.{is_known_ref};
 ghost use Rattle.rule_meaning.specs.Roots.{root_ref};
-ghost use Rattle.value_compare.specs.code.Stores.{see_store};
+ghost use Rattle.value_store.specs.code.Stores.{see_store};
 ghost use Rattle.evidence_rules.specs.CitedLines.{value_of};
 ghost use Rattle.evidence_rules.specs.Follows.{IsFrameOf};
 ghost use Rattle.evidence_lookups.specs.code.Grounds.{file_in, known_of, lines_of};

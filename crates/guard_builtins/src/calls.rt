@@ -2,9 +2,9 @@
 ghost use Rattle.std.specs.Prelude.{◌≡◌, [], true, IfOk, IfSome, IsOk, length, map};
 ghost use Rattle.std.specs.List.{list_all};
 ghost use Rattle.rule_names.specs.Uses.{arity};
-ghost use Rattle.value_compare.specs.code.Books.{has_text};
+ghost use Rattle.value_store.specs.code.Books.{has_text};
 ghost use Rattle.rule_meaning.specs.Functions.{Functions, argument, single_text};
-ghost use Rattle.value_compare.specs.code.Stores.{see_store};
+ghost use Rattle.value_store.specs.code.Stores.{see_store};
 ghost use Rattle.guard_builtins.specs.code.Memory.{is_by_row};
 ghost use Rattle.guard_builtins.specs.code.Seen.{is_plain, see_made, see_rows};
 

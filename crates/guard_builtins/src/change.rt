@@ -2,7 +2,7 @@
 ghost use Rattle.std.specs.Prelude.{◌≡◌, ℤ, IfOk, None, MatchOption, option_map, string_bytes};
 ghost use Rattle.decimals.specs.Decimal.{Decimal};
 ghost use Rattle.rule_meaning.specs.Functions.{IsBoolean, IsDecimalBy, IsDecoded, IsFloat, IsGiven, IsInt, IsJson, IsLower, IsPrinted, IsSubstring, IsUpper, IsWholeBy, printed_by, truth_by};
-ghost use Rattle.value_compare.specs.code.Views.{see_view};
+ghost use Rattle.value_store.specs.code.Views.{see_view};
 ghost use Rattle.guard_builtins.specs.code.Seen.{ByFunction, ByNothing, Changing, changes, gives};
 
 use crate::numbers::{decimal_of, read_decimal, read_whole};

@@ -2,7 +2,7 @@
 ghost use Rattle.std.specs.Prelude.{◌≡◌, [], false, true, count_by, IfOk, IfSome, IsOk, Some, map};
 ghost use Rattle.std.specs.List.{list_all};
 ghost use Rattle.rule_meaning.specs.Functions.{AreRows, IsRow, IsSubstring, counted, is_found, joined, joined_row, single_text, single_whole, texts_in};
-ghost use Rattle.value_compare.specs.code.Stores.{see_store};
+ghost use Rattle.value_store.specs.code.Stores.{see_store};
 ghost use Rattle.rule_meaning.specs.Values.{has_pattern};
 ghost use Rattle.guard_builtins.specs.code.Seen.{changes, is_plain, see_made};
 

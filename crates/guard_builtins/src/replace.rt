@@ -1,10 +1,10 @@
 //! Texts with the matches of a pattern replaced.
 ghost use Rattle.std.specs.Prelude.{◌≡◌, [], true, IfOk, IfSome, IsOk, Some, map, option_map};
 ghost use Rattle.std.specs.List.{list_all};
-ghost use Rattle.value_compare.specs.code.Books.{has_text};
+ghost use Rattle.value_store.specs.code.Books.{has_text};
 ghost use Rattle.rule_meaning.specs.Functions.{AreRows, IsGiven, IsReplaced, single_text};
-ghost use Rattle.value_compare.specs.code.Stores.{see_store};
-ghost use Rattle.value_compare.specs.code.Views.{see_view};
+ghost use Rattle.value_store.specs.code.Stores.{see_store};
+ghost use Rattle.value_store.specs.code.Views.{see_view};
 ghost use Rattle.guard_builtins.specs.code.Seen.{ByTexts, both, changes, is_plain, see_made};
 
 use crate::change::{NoChange, ValueChange};

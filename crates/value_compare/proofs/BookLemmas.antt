@@ -8,7 +8,7 @@ use Rattle.indexmap.specs.IndexMap.{insert_entry}
 use Rattle.std.proofs.lemmas.List.Elements.{All-push}
 use Rattle.std.proofs.lemmas.List.{map-append}
 use Rattle.std.proofs.lemmas.Slice.Eq.{bytes_eq-Decides}
-use Rattle.value_compare.specs.code.Books.{has_text}
+use Rattle.value_store.specs.code.Books.{has_text}
 
 abbrev pub Entries : Type 0
 Entries = List (String Global × List ℕ)

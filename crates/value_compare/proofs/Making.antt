@@ -17,14 +17,14 @@ use Rattle.guard_io.specs.Outside.{FaultCounted}
 use Rattle.guard_syntax.specs.Sites.{upto}
 use Rattle.guard_syntax.specs.Syntax.{File, literal}
 use Rattle.rule_names.specs.Pieces.{Piece, OfExpr, piece_at}
-use Rattle.value_compare.specs.code.Books.{has_text}
+use Rattle.value_store.specs.code.Books.{has_text, written}
 use Rattle.rule_meaning.specs.PatternMatch.{pattern_in}
 use Rattle.rule_meaning.specs.StoreModel.{tree_of_piece, literal_at}
-use Rattle.value_compare.specs.code.Making.{AreRead, IsReadBook, Gains, IsNextOf, see_written, written}
+use Rattle.value_compare.specs.code.Making.{AreRead, IsReadBook, Gains, IsNextOf, see_written}
 use Rattle.value_compare.specs.declared.written.WrittenText.{WrittenText}
 use Rattle.rule_meaning.specs.Patterns.{Written, written_if, is_sought, sought_text, patterns_in, patterns_at, patterns_of_piece}
 use Rattle.rule_meaning.specs.Values.{is_text}
-use Rattle.value_compare.proofs.Nodes.{labels, length-labels, label-labels, patterns_in-labels}
+use Rattle.value_store.proofs.Nodes.{labels, length-labels, label-labels, patterns_in-labels}
 
 -- a text that stands for what is past the end of a list
 abbrev pub past_written : WrittenText

@@ -1,6 +1,6 @@
 //! The patterns of a rule file by their texts.
 ghost use Rattle.std.specs.Prelude.{◌≡◌, ◌++◌, ◌∷◌, [], true, false, IfOk, OnOk, Some, slice_get, string_bytes};
-ghost use Rattle.value_compare.specs.code.Books.{has_text};
+ghost use Rattle.value_store.specs.code.Books.{has_text};
 
 use crate::pattern::Pattern;
 use crate::replacer::Replacer;

@@ -2,7 +2,7 @@
 ghost use Rattle.std.specs.Prelude.{◌≡◌, ◌∷◌, ◌≤◌, ℕ, List, [], All, map, IfOk, OnOk, IsErrOf, IsNone, IsSome};
 ghost use Rattle.guard_io.specs.Outside.{FaultCounted};
 ghost use Rattle.guard_syntax.specs.code.Seen.{see_file};
-ghost use Rattle.value_compare.specs.code.Books.{IsBookOf};
+ghost use Rattle.value_store.specs.code.Books.{IsBookOf};
 ghost use Rattle.rule_meaning.specs.NextPattern.{IsNextPattern};
 ghost use Rattle.rule_meaning.specs.PatternMatch.{pattern_in};
 ghost use Rattle.value_compare.specs.code.Making.{AreRead, IsReadBook, Gains, IsNextOf, refusal_of, see_written};

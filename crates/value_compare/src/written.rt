@@ -3,14 +3,15 @@ ghost use Rattle.std.specs.Prelude.{◌≡◌, ◌∷◌, ◌++◌, ◌<◌, ℕ
 ghost use Rattle.doc_values.specs.Places.{label_at};
 ghost use Rattle.doc_values.specs.Tree.{has_text};
 ghost use Rattle.guard_syntax.specs.code.Seen.{see_file};
-ghost use Rattle.value_compare.specs.code.Making.{see_written, written};
+ghost use Rattle.value_compare.specs.code.Making.{see_written};
+ghost use Rattle.value_store.specs.code.Books.{written};
 ghost use Rattle.rule_meaning.specs.Patterns.{is_sought, patterns_at, patterns_in, patterns_of, sought_text};
 
-use crate::literals::literal_in;
 use crate::sought::sought_sites;
 use doc_values::{Cursor, Doc, Kind};
 use rule_names::{PieceTable, RuleFile};
 use std::alloc::{AllocError, Global};
+use value_store::literals::literal_in;
 
 /// A text that is read as a pattern, and the byte offset of the slash or quote that opens it.
 #[derive(Clone, Copy)]

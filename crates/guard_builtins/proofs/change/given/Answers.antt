@@ -1,6 +1,6 @@
 use Rattle.std.proofs.Common.{IfOk, subst, sym}
 use Rattle.rule_meaning.specs.Functions.{IsGiven}
-use Rattle.value_compare.specs.code.Views.{see_view}
+use Rattle.value_store.specs.code.Views.{see_view}
 use Rattle.guard_builtins.specs.code.Seen.{gives}
 use Rattle.guard_builtins.proofs.change.given.Goals as goal
 

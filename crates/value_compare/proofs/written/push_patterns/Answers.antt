@@ -2,7 +2,8 @@ use Rattle.std.proofs.Common.{◌≡◌, ◌<◌, ◌++◌, List, map, sym, ap, 
 use Rattle.doc_values.specs.Places.{label_at}
 use Rattle.doc_values.specs.Tree.{Label, Forest, size}
 use Rattle.rule_meaning.specs.Patterns.{Written}
-use Rattle.value_compare.specs.code.Making.{see_written, written}
+use Rattle.value_store.specs.code.Books.{written}
+use Rattle.value_compare.specs.code.Making.{see_written}
 use Rattle.value_compare.proofs.Making.{none-written, written_before, written_before-none, written_before-more, written_before-all}
 use Rattle.value_compare.proofs.written.push_patterns.Goals as goal
 
