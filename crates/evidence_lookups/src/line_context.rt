@@ -11,9 +11,10 @@ ghost use Rattle.evidence_lookups.specs.code.Said.{AreMadeWithin, AreSound};
 use crate::judged::Judged;
 use crate::tables::FileTables;
 use evidence_lines::{LineKind, LineList, Version};
+use pattern_books::PatternBook;
 use rule_names::{Piece, RuleFile};
 use std::alloc::Global;
-use value_compare::{PatternBook, Store};
+use value_store::Store;
 
 /// What a line is judged over, which judging it does not change: the version of the evidence, the rules with the trees that
 /// references point into, the patterns, the tables of the rules, and the lines before, each of which follows, with what their

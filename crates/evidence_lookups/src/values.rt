@@ -17,7 +17,7 @@ use crate::owners::Owner;
 use evidence_lines::LineList;
 use guard_syntax::{Body, Origin, Ref};
 use rule_names::Piece;
-use value_compare::Store;
+use value_store::Store;
 
 /// Whether a frame in a frame may have a value, by its site: that of a filter's candidate any, and that of a call the value
 /// of the frame around it.

@@ -7,7 +7,7 @@ use Rattle.decimals.specs.declared.decimal.Num.TheVariants as num
 use Rattle.doc_values.specs.declared.kind.Kind.TheVariants as kind
 use Rattle.decimals.specs.declared.decimal.Num.{Num}
 use Rattle.rule_meaning.specs.Functions.{behind_plus, IsDecimal, IsDecimalBy, IsSigned}
-use Rattle.value_compare.proofs.OneAnswer.{IsSigned-unique}
+use Rattle.pattern_books.proofs.OneAnswer.{IsSigned-unique}
 
 -- a text without a plus in front is left as it is
 pub behind_plus-none : (text : List ℕ) → ((rest : List ℕ) → text ≢ 43 ∷ rest) → behind_plus text ≡ Some text

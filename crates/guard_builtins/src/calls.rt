@@ -13,8 +13,9 @@ use crate::functions::{count, join, rows_for, substring};
 use crate::made::Made;
 use crate::replace::regex_replace;
 use guard_syntax::{Function, Row};
+use pattern_books::PatternBook;
 use std::alloc::{AllocError, Global};
-use value_compare::{PatternBook, Store};
+use value_store::Store;
 
 /// What the call of a function at a site answers: a row for each row of its first argument, or its one row. It wants as many
 /// arguments as the function takes, and of `regex_replace` a book that has the pattern. Where it answers a row for each row

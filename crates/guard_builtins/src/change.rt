@@ -12,7 +12,7 @@ use crate::trees::{plain_tree, text_tree};
 use crate::values::text_of;
 use doc_values::{Decimal, Doc, Kind, Num};
 use std::alloc::{AllocError, Global};
-use value_compare::View;
+use value_store::View;
 
 /// A function of one value after another, with its further arguments.
 #[derive(Clone, Copy)]

@@ -13,7 +13,7 @@ use crate::values::{single_text, single_whole, texts_in};
 use doc_values::{Doc, Kind};
 use guard_syntax::Row;
 use std::alloc::{AllocError, Global};
-use value_compare::Store;
+use value_store::Store;
 
 /// `count`: one whole number, how many rows are found.
 pub fn count(alloc: Global, rows: &[Row]) -> Result<Vec<Made>, AllocError>

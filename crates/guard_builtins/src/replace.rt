@@ -14,8 +14,9 @@ use crate::trees::text_tree;
 use crate::values::{single_text, text_of};
 use doc_values::Doc;
 use guard_syntax::Row;
+use pattern_books::{PatternBook, Replacer};
 use std::alloc::{AllocError, Global};
-use value_compare::{PatternBook, Replacer, Store, View};
+use value_store::{Store, View};
 
 /// `regex_replace`: a text with each match of a pattern replaced by what a template says. Pattern and template have to be
 /// single texts; the book has the pattern. Where there are no rows, nothing is made that replaces.

@@ -8,7 +8,7 @@ ghost use Rattle.value_store.specs.code.Views.{see_view};
 use doc_values::Kind;
 use guard_syntax::Row;
 use std::alloc::{AllocError, Global};
-use value_compare::{Store, View};
+use value_store::{Store, View};
 
 /// What a value is; a key of a map is a text.
 pub(crate) fn kind_of(value: View<'_, '_>) -> Kind

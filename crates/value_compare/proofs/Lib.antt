@@ -1,6 +1,5 @@
+pub mod Counted
 pub mod Examples
-pub mod FindsLemmas
-mod BookLemmas
 mod KeptMatchers
 mod Forests
 mod MapKeys
@@ -11,7 +10,4 @@ mod RowExamples
 mod Items
 mod FoundRows
 mod Making
-mod SoughtSites
 mod AnswerKinds
-pub mod GivenTrees
-pub mod OneAnswer

@@ -2,23 +2,16 @@
 //! The tables speak of located trees; the crate knows neither queries nor verdicts.
 #![tactic(auto)]
 
-pub mod book;
 mod equal;
 pub mod make_book;
 pub mod maker;
 pub mod matchers;
 mod members;
-pub mod pattern;
-pub mod replacer;
 pub mod row_tests;
-mod sought;
-mod written;
 
-pub use book::PatternBook;
 pub use make_book::{BookRefusal, pattern_book};
 pub use maker::{PatternFault, PatternMaker, RegexMaker, ScriptMaker};
 pub use matchers::Matchers;
-pub use pattern::Pattern;
-pub use replacer::Replacer;
+pub use pattern_books::{Pattern, PatternBook, Replacer};
 pub use row_tests::row_test;
 pub use value_store::{MadeTrees, Store, View};

@@ -7,13 +7,8 @@ use Rattle.value_compare.specs.declared.make_book.BookRefusal.{BookRefusal}
 use Rattle.value_compare.specs.declared.make_book.BookRefusal.TheVariants.{BadPattern, PatternRefused, NoMemory}
 use Rattle.value_compare.specs.declared.maker.PatternFault.{PatternFault}
 use Rattle.value_compare.specs.declared.maker.PatternFault.TheVariants.{Syntax, TooLarge, Memory}
-use Rattle.value_compare.specs.declared.written.WrittenText.{WrittenText}
 use Rattle.rule_meaning.specs.PatternMatch.{pattern_in}
 use Rattle.rule_meaning.specs.Patterns.{Written}
-
--- a text that is read as a pattern, as the code has it
-abbrev pub see_written : WrittenText → Written
-see_written w = record { text = w.text.now; at = w.at }
 
 -- each of these patterns is read
 abbrev pub AreRead : List Written → Type 0
