@@ -1,14 +1,14 @@
 //! What is made of one value after another.
 ghost use Rattle.std.specs.Prelude.{◌≡◌, IfOk, None};
 ghost use Rattle.rule_meaning.specs.Functions.{IsGiven};
-ghost use Rattle.value_compare.specs.code.Views.{see_view};
+ghost use Rattle.value_store.specs.code.Views.{see_view};
 ghost use Rattle.value_functions.specs.code.Gives.{gives};
 ghost use Rattle.guard_builtins.specs.code.Seen.{ByFunction, ByNothing, Changing, changes};
 
 use doc_values::Doc;
 use std::alloc::{AllocError, Global};
-use value_compare::View;
 use value_functions::{Change, given};
+use value_store::View;
 
 /// What is made of one value after another.
 pub(crate) trait ValueChange {

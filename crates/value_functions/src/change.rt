@@ -2,7 +2,7 @@
 ghost use Rattle.std.specs.Prelude.{◌≡◌, ℤ, IfOk, MatchOption, option_map, string_bytes};
 ghost use Rattle.decimals.specs.Decimal.{Decimal};
 ghost use Rattle.rule_meaning.specs.Functions.{IsBoolean, IsDecimalBy, IsDecoded, IsFloat, IsGiven, IsInt, IsJson, IsLower, IsPrinted, IsSubstring, IsUpper, IsWholeBy, printed_by, truth_by};
-ghost use Rattle.value_compare.specs.code.Views.{see_view};
+ghost use Rattle.value_store.specs.code.Views.{see_view};
 ghost use Rattle.value_functions.specs.code.Gives.{gives};
 
 use crate::numbers::{decimal_of, read_decimal, read_whole};
@@ -12,7 +12,7 @@ use crate::trees::{plain_tree, text_tree};
 use crate::values::text_of;
 use doc_values::{Decimal, Doc, Kind, Num};
 use std::alloc::{AllocError, Global};
-use value_compare::View;
+use value_store::View;
 
 /// A function of one value, with its further arguments.
 #[derive(Clone, Copy)]

@@ -2,13 +2,13 @@
 ghost use Rattle.std.specs.Prelude.{◌≡◌, ℕ, None, Some, option_map, IfOk, map};
 ghost use Rattle.rule_meaning.specs.Functions.{single, single_text, single_whole, text_in, text_of, texts_in};
 ghost use Rattle.rule_meaning.specs.StoreModel.{meant};
-ghost use Rattle.value_compare.specs.code.Stores.{see_store};
-ghost use Rattle.value_compare.specs.code.Views.{see_view};
+ghost use Rattle.value_store.specs.code.Stores.{see_store};
+ghost use Rattle.value_store.specs.code.Views.{see_view};
 
 use doc_values::Kind;
 use guard_syntax::Row;
 use std::alloc::{AllocError, Global};
-use value_compare::{Store, View};
+use value_store::{Store, View};
 
 /// What a value is; a key of a map is a text.
 fn kind_of(value: View<'_, '_>) -> Kind

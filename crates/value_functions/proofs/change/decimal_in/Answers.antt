@@ -1,6 +1,6 @@
 use Rattle.std.proofs.Common.{ap, sym, ◌∙◌}
 use Rattle.rule_meaning.specs.Functions.{IsDecimalBy}
-use Rattle.value_compare.specs.code.Views.{see_view}
+use Rattle.value_store.specs.code.Views.{see_view}
 use Rattle.value_functions.proofs.ReadTexts.{as-text}
 use Rattle.value_functions.proofs.change.decimal_in.Goals as goal
 

@@ -1,6 +1,6 @@
 use Rattle.std.proofs.Common.{IfOk, subst, sym}
 use Rattle.rule_meaning.specs.Functions.{IsGiven}
-use Rattle.value_compare.specs.code.Views.{see_view}
+use Rattle.value_store.specs.code.Views.{see_view}
 use Rattle.value_functions.specs.code.Gives.{gives}
 use Rattle.value_functions.proofs.change.given.Goals as goal
 
