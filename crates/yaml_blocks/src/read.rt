@@ -15,7 +15,7 @@ ghost use Rattle.yaml_grammar.specs.code.Refused.{IsStopped, of_stop};
 ghost use Rattle.yaml_grammar.specs.code.Twins.{FixesStart};
 ghost use Rattle.yaml_grammar.specs.Yaml.{IsStart, start_sign, text_start};
 
-use crate::step::{root, step};
+use crate::step::step;
 use crate::twice::read_placed;
 use doc_values::{Doc, DocBuilder};
 use std::alloc::Global;
@@ -23,6 +23,7 @@ use yaml_grammar::{Stage, Stop, Token, YamlRefusal, refusal_of};
 use yaml_nodes::ahead::look;
 use yaml_nodes::place::last_told;
 use yaml_nodes::sign::start_sign;
+use yaml_steps::root::root;
 
 /// The tree of a YAML text of at most 8 MiB that is one document, the only one. `NoMemory` says no more of the text than that
 /// a document begins: what is refused in front of one takes no memory.

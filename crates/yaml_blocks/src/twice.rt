@@ -1,10 +1,8 @@
 //! Texts with the place at which they are no document; those that end in a carriage return are read twice.
-ghost use Rattle.std.specs.Prelude.{ℕ, suc, List, [], ◌∷◌, ◌++◌, ◌≡◌, ◌<◌, ◌≤◌, ◌⊎◌, ◌^◌, length, true, false, IsErrOf, IfOk, MatchResult, string_bytes};
+ghost use Rattle.std.specs.Prelude.{ℕ, List, [], ◌∷◌, ◌++◌, ◌≡◌, ◌<◌, ◌≤◌, ◌⊎◌, ◌^◌, length, true, false, IsErrOf, IfOk, MatchResult};
 ghost use Rattle.std.specs.Result.{IfErr};
 ghost use Rattle.doc_values.specs.Limits.{template_limit};
 ghost use Rattle.doc_values.specs.Tree.{size};
-ghost use Rattle.yaml_scalars.specs.code.Limits.{text_limit};
-ghost use Rattle.yaml_scalars.specs.Lines.{ends_with};
 ghost use Rattle.yaml_grammar.specs.Answers.{Reads};
 ghost use Rattle.yaml_grammar.specs.Places.{IsSyntax};
 ghost use Rattle.yaml_grammar.specs.Yaml.{IsStart};
@@ -14,22 +12,12 @@ ghost use Rattle.yaml_grammar.specs.code.ReadAgain.{SaysAgain};
 ghost use Rattle.yaml_grammar.specs.code.Refused.{IsStopped};
 
 use crate::read::{document_start, read_document, text_start};
-use crate::returned::returned_place;
 use doc_values::Doc;
-use std::alloc::{AllocError, Global};
+use std::alloc::Global;
 use yaml_grammar::{Stop, Token};
 use yaml_nodes::ahead::{bytes_ahead, look};
 use yaml_nodes::node::offset;
-
-/// Whether a carriage return ends a text.
-fn ends_in_return(bytes: &[u8]) -> bool
-    ensures { result ≡ ends_with 13 bytes.now }
-{
-    if bytes.is_empty() {
-        return false;
-    }
-    bytes[bytes.len() - 1] == 13
-}
+use yaml_steps::returned::{ends_in_return, fed, place_at_end, returned_place};
 
 /// Whether a document begins in a text.
 fn begins_document(text: &str) -> bool
@@ -60,15 +48,6 @@ fn start_place(text: &str) -> u32
     }
 }
 
-/// A text with a line feed behind it.
-fn fed(alloc: Global, text: &str) -> Result<String, AllocError>
-    ensures { IfOk result (λ longer. string_bytes longer ≡ text.now ++ (10 ∷ [])) }
-{
-    let mut longer = String::from_str(alloc, text)?;
-    longer.push_str("\n")?;
-    Ok(longer)
-}
-
 /// Why reading stops in a text that ends in a carriage return, with a line feed behind it; none where that is a document.
 fn stop_again(alloc: Global, text: &str) -> Option<Stop>
     requires small { length text.now ≤ template_limit }
@@ -83,18 +62,6 @@ fn stop_again(alloc: Global, text: &str) -> Option<Stop>
         Ok(_) => None,
         Err(stop) => Some(stop),
     }
-}
-
-/// A place that is no earlier than the last byte of a text of this length, by one that may be: behind a place at which the text is
-/// no document each of its places is one.
-fn place_at_end(len: usize, at: u32) -> u32
-    requires small { len ≤ text_limit }
-    requires some { 0 < len }
-    ensures late { len ≤ suc result }
-    ensures is { (text : List ℕ) → len ≡ length text → IsSyntax text at → IsSyntax text result }
-{
-    let last = offset(len - 1);
-    if at < last { last } else { at }
 }
 
 /// Why a text that ends in a carriage return and is not read is no document, where that shows at its last byte or behind it: the

@@ -1,0 +1,1 @@
+-- What serves the code and its proofs alone: nobody has to believe it.
