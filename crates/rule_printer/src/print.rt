@@ -6,9 +6,9 @@ ghost use Rattle.rule_printer.specs.code.Printing.{lets_from, rules_from};
 
 use crate::blocks::{push_body, push_disj, push_when};
 use crate::lets::{push_lets, push_lets_before};
-use crate::names::push_params;
-use crate::words::push_signed;
 use guard_syntax::{Let, RawFile, Rule};
+use rule_words::names::push_params;
+use rule_words::words::push_signed;
 use std::alloc::{AllocError, Global};
 
 /// The first let and the first rule of a file that are not appended yet.
