@@ -14,7 +14,7 @@ use Rattle.literal_parser.specs.States.{State, Opens, past, opened}
 use Rattle.literal_parser.proofs.Apart.{always, apart, implied, denied}
 use Rattle.guard_parser.specs.Grammar.{IsCapture, IsAny, IsNot, IsConds, IsDisjs, IsDisj, IsOrs, IsPart, IsRight, IsQuery, IsStart, IsSteps, IsStep, IsExpr, IsExprs, IsMoreExprs}
 use Rattle.rule_spelling.specs.code.Pieces.{Piece}
-use Rattle.rule_printer.specs.RuleText.{is_free_name, space_within, space_behind}
+use Rattle.rule_words.specs.WordText.{is_free_name, space_within, space_behind}
 use Rattle.rule_printer.specs.code.RulePieces.{space, name, mark, name_if, operator, note, capture, start, conds_pieces, more_disjs_pieces, disj_pieces, more_alternatives_pieces, cond_pieces, query_pieces, steps_pieces, step_pieces, expr_pieces, opt_expr_pieces, exprs_pieces, more_exprs_pieces}
 use Rattle.printer_laws.specs.code.Unplaced.{unplaced_name, unplaced_conds, unplaced_disjs, unplaced_disj, unplaced_parts, unplaced_part, unplaced_query, unplaced_steps, unplaced_step, unplaced_expr, unplaced_opt_expr, unplaced_exprs}
 use Rattle.printer_laws.specs.code.Shown.{IsQuotable, IsReadBack, IsLevel, IsQuiet, Shows, Told, first_form, second_form}

@@ -14,7 +14,7 @@ use Rattle.literal_parser.specs.Literal.{IsLiteral}
 use Rattle.literal_parser.proofs.Apart.{apart, implied, denied}
 use Rattle.guard_parser.specs.Grammar.{IsStart, IsPart, IsDisjs}
 use Rattle.rule_spelling.specs.code.Pieces.{Piece}
-use Rattle.rule_printer.specs.RuleText.{is_free_name, space_behind}
+use Rattle.rule_words.specs.WordText.{is_free_name, space_behind}
 use Rattle.rule_printer.specs.code.RulePieces.{name, str, mark, space, start, step_pieces, steps_pieces, cond_pieces, operator, note, opt_expr_pieces, exprs_pieces, more_alternatives_pieces, more_disjs_pieces}
 use Rattle.printer_laws.specs.code.Shown.{IsQuotable, IsReadBack, IsQuiet, Shows, first_form, second_form}
 use Rattle.printer_laws.proofs.Showing.{fails, shown_form, is_name-form, no_mark, no_whole, no_keyword}

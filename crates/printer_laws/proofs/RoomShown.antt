@@ -20,7 +20,7 @@ use Rattle.literal_parser.proofs.Apart.{apart}
 use Rattle.literal_parser.proofs.Levels.{is_bracket}
 use Rattle.rule_meaning.specs.Functions.{truth_text}
 use Rattle.rule_spelling.specs.code.Pieces.{Piece}
-use Rattle.rule_printer.specs.RuleText.{is_name, is_free_name, space_within, space_behind}
+use Rattle.rule_words.specs.WordText.{is_name, is_free_name, space_within, space_behind}
 use Rattle.rule_printer.specs.code.RulePieces.{space, name, mark, str, number, index_number, name_if, operator, note, capture, opening_end, closing_end, range, value, entry, item_pieces, more_item_pieces, entry_pieces, more_entry_pieces, literal_pieces, start, head, conds_pieces, disjs_pieces, more_disjs_pieces, disj_pieces, alternatives_pieces, more_alternatives_pieces, cond_pieces, query_pieces, asked_pieces, steps_pieces, step_pieces, expr_pieces, opt_expr_pieces, exprs_pieces, more_exprs_pieces, opt_conds_pieces}
 use Rattle.printer_laws.specs.code.PrintedDepth.{deep_conds, deep_opt_conds, deep_disjs, deep_disj, deep_parts, deep_part, deep_query, deep_steps, deep_step, deep_expr, deep_opt_expr, deep_exprs}
 use Rattle.printer_laws.proofs.Showing.{first_false, second_false, any_name_word, number_word}

@@ -6,7 +6,8 @@ use Rattle.doc_values.specs.declared.kind.Kind.{Kind}
 use Rattle.doc_values.specs.declared.kind.Kind.TheVariants as kind
 use Rattle.guard_syntax.specs.Named.{Named}
 use Rattle.guard_syntax.specs.Syntax.{Body, Lets, Let, Conds, OptConds, Disjs, Disj, Parts, Part, Query, Steps, Step, Expr, OptExpr, Exprs, Rule, File, body, no_lets, more_lets, assign, conds, no_conds, with_conds, no_disjs, more_disjs, disj, no_parts, more_parts, block, guarded, kinds, test, refer, call, query, no_steps, more_steps, this, var, key, index, every, items, splice, filter, keys, literal, function, asked, found, no_expr, with_expr, no_exprs, more_exprs}
-use Rattle.rule_printer.specs.RuleText.{within, line, merged, in_a_row, word_if, operator_text, note_text, capture_text, value_text, entry_key, items_text, more_items_text, entries_text, more_entries_text, literal_text, space_behind, is_bracketed, space_within, start_text, head_text, body_text, let_lines, let_line, disj_lines, disj_line, parts_text, more_parts_text, part_text, conds_text, disjs_text, more_disjs_text, disj_text, alternatives_text, more_alternatives_text, cond_text, opt_conds_text, query_text, asked_text, steps_text, step_text, expr_text, opt_expr_text, exprs_text, more_exprs_text, more_names_text, params_text, rule_line, rule_lines, rule_text}
+use Rattle.rule_words.specs.WordText.{word_if, operator_text, note_text, capture_text, value_text, entry_key, items_text, more_items_text, entries_text, more_entries_text, literal_text, space_behind, is_bracketed, space_within, head_text, more_names_text, params_text}
+use Rattle.rule_printer.specs.RuleText.{within, line, merged, in_a_row, start_text, body_text, let_lines, let_line, disj_lines, disj_line, parts_text, more_parts_text, part_text, conds_text, disjs_text, more_disjs_text, disj_text, alternatives_text, more_alternatives_text, cond_text, opt_conds_text, query_text, asked_text, steps_text, step_text, expr_text, opt_expr_text, exprs_text, more_exprs_text, rule_line, rule_lines, rule_text}
 use Rattle.printer_laws.specs.code.Unplaced.{unplaced_name, unplaced_label, unplaced_tree, unplaced_body, unplaced_lets, unplaced_let, unplaced_conds, unplaced_opt_conds, unplaced_disjs, unplaced_disj, unplaced_parts, unplaced_part, unplaced_query, unplaced_steps, unplaced_step, unplaced_expr, unplaced_opt_expr, unplaced_exprs, unplaced_rule, unplaced, AreSameButPlaces}
 
 cat : (a b c d : List ℕ) → a ≡ c → b ≡ d → a ++ b ≡ c ++ d

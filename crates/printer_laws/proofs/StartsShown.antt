@@ -11,7 +11,7 @@ use Rattle.literal_parser.specs.Forms.{form, word_form, name_form, is_name, is_v
 use Rattle.literal_parser.specs.States.{State, Opens, past, opened}
 use Rattle.guard_parser.specs.Grammar.{IsStart, IsStep, IsSteps}
 use Rattle.rule_spelling.specs.code.Pieces.{Piece}
-use Rattle.rule_printer.specs.RuleText.{is_free_name}
+use Rattle.rule_words.specs.WordText.{is_free_name}
 use Rattle.rule_printer.specs.code.RulePieces.{operator, start, step_pieces, steps_pieces}
 use Rattle.printer_laws.specs.code.Shown.{IsQuotable, IsReadBack, IsLevel, Shows, first_form}
 use Rattle.printer_laws.proofs.Showing.{level_past, level_opened, passes, shown_form, is_name-form}

@@ -12,7 +12,7 @@ use Rattle.literal_parser.specs.declared.keyword.Keyword.{Keyword}
 use Rattle.literal_parser.specs.declared.keyword.Keyword.TheVariants as kw
 use Rattle.literal_parser.specs.Lexemes.{Reserved, keyword_of, name_word, word_of, lexeme_of, lexemes, ending}
 use Rattle.rule_spelling.proofs.Words.{text_word, pattern_word, variable_word, note_is}
-use Rattle.rule_printer.specs.RuleText.{is_name}
+use Rattle.rule_words.specs.WordText.{is_name}
 use Rattle.rule_printer.specs.code.Spellable.{IsKey}
 use Rattle.rule_printer.proofs.SoundWords.{IsSound, lexeme_sound, key_has}
 use Rattle.printer_laws.specs.code.Shown.{IsReadBack, IsQuotable}

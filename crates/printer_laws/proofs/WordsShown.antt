@@ -12,8 +12,8 @@ use Rattle.literal_parser.specs.Forms.{form, word_form, whole_form, is_any_name,
 use Rattle.literal_parser.specs.States.{State, past}
 use Rattle.guard_parser.specs.Grammar.{IsNeg, IsOperator, IsKeysOperator, IsNote}
 use Rattle.rule_spelling.specs.code.Pieces.{Piece}
-use Rattle.rule_printer.specs.RuleText as printed
-use Rattle.rule_printer.specs.RuleText.{operator_word, is_free_name}
+use Rattle.rule_words.specs.WordText as printed
+use Rattle.rule_words.specs.WordText.{operator_word, is_free_name}
 use Rattle.rule_printer.specs.code.RulePieces.{name, str, operator_kind, operator, note, plain_operator, negated_operator, mark, space}
 use Rattle.printer_laws.specs.code.Shown.{IsQuotable, IsReadBack, IsLevel, Shows, first_form}
 use Rattle.printer_laws.proofs.Showing.{level_past, level_same, level_off, level_on, passes, fails, shown_form, any_name_word, no_mark, no_name, no_whole, no_keyword}

@@ -3,8 +3,8 @@ use Rattle.std.proofs.Common.{◌≡◌, ℕ, List, ◌++◌, map, codes, refl, 
 use Rattle.guard_syntax.specs.Syntax as sx
 use Rattle.guard_syntax.specs.declared.syntax.Part.{Part}
 use Rattle.guard_syntax.specs.code.Seen.{see_part, part_list}
+use Rattle.rule_words.proofs.InARow.{IsJoined}
 use Rattle.rule_printer.specs.RuleText.{more_parts_text, part_text, parts_text}
-use Rattle.rule_printer.proofs.InARow.{IsJoined}
 
 part_as : (margin a : List ℕ) (x : Part) (p : sx.Part) → see_part x ≡ p → a ++ part_text margin p ≡ a ++ part_text margin (see_part x)
 part_as margin a x p is = ap (λ (y : sx.Part). a ++ part_text margin y) (sym is)

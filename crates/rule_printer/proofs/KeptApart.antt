@@ -21,7 +21,8 @@ use Rattle.rule_spelling.specs.Spelling.{quoted}
 use Rattle.rule_spelling.specs.code.Pieces.{Piece, AreApart, IsInRange, next_apart}
 use Rattle.rule_spelling.proofs.Opened.{White, Loose, Dotted, Opened, loose_dotted, behind_gap, one, name_opened, str_opened, pattern_opened, variable_opened, type_opened, number_opened, mark_opened, spaced, white_space, choose, Behind, behind_dot, index_behind, dot_dotted, closed, opening, loose_opened, truth_name, comma_loose}
 use Rattle.rule_spelling.proofs.Words.{named, text_word, note_is}
-use Rattle.rule_printer.specs.RuleText.{within, merged, before_each, operator_word, is_name, is_free_name, is_bracketed, space_behind, space_within}
+use Rattle.rule_words.specs.WordText.{operator_word, is_name, is_free_name, is_bracketed, space_behind, space_within}
+use Rattle.rule_printer.specs.RuleText.{within, merged, before_each}
 use Rattle.rule_printer.specs.code.RulePieces.{space, new_line, name, mark, str, variable, number, index_number, name_if, operator_kind, plain_operator, operator, note, dotted_key, first_key, capture, range, opening_end, closing_end, value, entry, item_pieces, more_item_pieces, entry_pieces, more_entry_pieces, literal_pieces, start, head, Spell, in_a_row, body_pieces, let_items, let_item, disj_items, disj_item, parts_pieces, more_parts_pieces, part_pieces, conds_pieces, disjs_pieces, more_disjs_pieces, disj_pieces, alternatives_pieces, more_alternatives_pieces, cond_pieces, opt_conds_pieces, query_pieces, asked_pieces, steps_pieces, step_pieces, expr_pieces, opt_expr_pieces, exprs_pieces, more_exprs_pieces, more_names, params, rule_item, rule_items, file_items, rule_pieces, end_of, file_end}
 use Rattle.rule_printer.specs.code.Spellable.{IsKey, IsOptKey, IsCapture, IsMessage, IsValue, AreValues, IsLiteral, IsStart, AreConds, SomeDisjs, AreDisjs, IsDisj, SomeAlternatives, AreAlternatives, IsCond, IsQuery, AreSteps, IsStep, IsExpr, IsOptExpr, AreExprs, AreOptConds, IsLet, AreLets, IsBody, AreItems, IsItem, SomeParts, AreParts, IsPart, AreNames, IsRule, AreRules, HasSpelling}
 

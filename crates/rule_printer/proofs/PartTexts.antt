@@ -1,22 +1,21 @@
 -- The text of a part is that of its own parts, one after the other, behind what stood before.
-use Rattle.std.proofs.Common.{◌≡◌, ℕ, ◌+◌, ◌<◌, ◌≤◌, Bool, List, [], ◌∷◌, ◌++◌, map, drop, get_or, length, Option, Some, None, codes, refl, sym, ap, ◌∙◌, rules, append-nil, append_assoc, arith, MatchOption, Bor}
+use Rattle.std.proofs.Common.{◌≡◌, ℕ, ◌+◌, ◌<◌, ◌≤◌, Bool, List, ◌∷◌, ◌++◌, map, drop, get_or, length, Option, Some, None, codes, refl, sym, ap, ◌∙◌, rules, append-nil, append_assoc}
 use Rattle.std.proofs.lemmas.List.{drop_more, drop_all}
 use Rattle.guard_syntax.specs.Syntax as sx
 use Rattle.guard_syntax.specs.declared.syntax.Op.{Op}
 use Rattle.guard_syntax.specs.declared.syntax.Body.{the_lemmas}
 use Rattle.guard_syntax.specs.declared.syntax.Conds.{Conds, out-Conds}
-use Rattle.guard_syntax.specs.declared.syntax.Query.{Query, out-Query}
+use Rattle.guard_syntax.specs.declared.syntax.Query.{Query}
 use Rattle.guard_syntax.specs.declared.syntax.Part.{Part}
 use Rattle.guard_syntax.specs.declared.syntax.Part as part
 use Rattle.guard_syntax.specs.declared.syntax.Step.{Step}
 use Rattle.guard_syntax.specs.declared.syntax.Disj.{Disj}
 use Rattle.guard_syntax.specs.declared.syntax.Expr.{Expr}
-use Rattle.guard_syntax.specs.code.Seen.{see_step, see_disj, see_conds, see_part, see_query, see_expr, see_opt_expr, step_list, disj_list, part_list, expr_list}
-use Rattle.rule_names.proofs.Shapes.{disj-seen, conds-seen, query-seen}
-use Rattle.rule_spelling.specs.Spelling.{quoted}
-use Rattle.rule_printer.specs.RuleText.{alternatives_text, cond_text, conds_text, disjs_text, disj_text, expr_text, exprs_text, more_alternatives_text, more_disjs_text, more_exprs_text, head_text, space_within, step_text, steps_text}
-use Rattle.rule_printer.specs.code.Printing.{space_in}
-use Rattle.rule_printer.proofs.InARow.{IsJoined}
+use Rattle.guard_syntax.specs.code.Seen.{see_step, see_disj, see_conds, see_part, see_query, see_expr, see_opt_expr, disj_list, part_list, expr_list}
+use Rattle.rule_names.proofs.Shapes.{disj-seen, conds-seen}
+use Rattle.rule_words.proofs.InARow.{IsJoined}
+use Rattle.rule_words.proofs.QueryStarts.{of_steps}
+use Rattle.rule_printer.specs.RuleText.{alternatives_text, cond_text, conds_text, disjs_text, disj_text, expr_text, exprs_text, more_alternatives_text, more_disjs_text, more_exprs_text, step_text, steps_text}
 
 -- ---- texts one after the other
 
@@ -44,9 +43,6 @@ pub refer_seen : (site : ℕ) (negated : Bool) (name : List ℕ) (message : Opti
 refer_seen site negated name message = search (rules, the_lemmas)
 
 -- ---- queries
-
-abbrev pub of_steps : List Step → sx.Steps
-of_steps ss = step_list (map see_step ss)
 
 -- steps from an index on
 pub steps-next : (ss : List Step) (i : ℕ) (x : Step) (start old new : List ℕ) → i < length ss → x ≡ get_or ss i x → new ≡ old ++ step_text (see_step x)
@@ -96,59 +92,3 @@ disj-parts a b d ps are added =
 
 pub conds-disjs : (a : List ℕ) (c : Conds) (ds : List Disj) → ds ≡ (out-Conds c).parts.items → a ++ of_disjs ds ≡ a ++ conds_text (see_conds c)
 conds-disjs a c ds are = ap (λ (l : List Disj). a ++ of_disjs l) are ∙ ap (λ (y : sx.Conds). a ++ conds_text y) (sym (conds-seen c))
-
--- ---- how queries begin
-
-no_space : (s : sx.Step) → space_within s sx.no_steps ≡ []
-no_space (sx.key n text) = refl
-no_space (sx.this n) = refl
-no_space (sx.var n text) = refl
-no_space (sx.index n i) = refl
-no_space (sx.every n) = refl
-no_space (sx.items n) = refl
-no_space (sx.splice n bound) = refl
-no_space (sx.filter n bound c) = refl
-no_space (sx.keys n bound o negated e) = refl
-
-pub few-steps : (a : List ℕ) (ss : List Step) → length ss < 2 → a ≡ a ++ space_in (of_steps ss)
-few-steps a [] h = sym (append-nil a)
-few-steps a (x ∷ []) h = sym (append-nil a) ∙ ap (λ (l : List ℕ). a ++ l) (sym (no_space (see_step x)))
-few-steps a (x ∷ y ∷ ys) h = absurd (omega arith)
-
-more_than_a_key : (n : ℕ) (s : sx.Step) (r : sx.Step) (rs : sx.Steps) (text : List ℕ) → head_text (sx.query n (sx.more_steps s (sx.more_steps r rs))) text ≡ text
-more_than_a_key n (sx.key m name) r rs text = refl
-more_than_a_key n (sx.this m) r rs text = refl
-more_than_a_key n (sx.var m name) r rs text = refl
-more_than_a_key n (sx.index m i) r rs text = refl
-more_than_a_key n (sx.every m) r rs text = refl
-more_than_a_key n (sx.items m) r rs text = refl
-more_than_a_key n (sx.splice m bound) r rs text = refl
-more_than_a_key n (sx.filter m bound c) r rs text = refl
-more_than_a_key n (sx.keys m bound o negated e) r rs text = refl
-
-not_one : (n : ℕ) (ss : List Step) (text : List ℕ) → (length ss ≡ 1 → ⊥) → head_text (sx.query n (of_steps ss)) text ≡ text
-not_one n [] text h = refl
-not_one n (x ∷ []) text h = absurd (h refl)
-not_one n (x ∷ y ∷ ys) text h = more_than_a_key n (see_step x) (see_step y) (of_steps ys) text
-
-pub no-lone-key : (q : Query) (ss : List Step) (text : List ℕ) → ss ≡ (out-Query q).steps.items → (length ss ≡ 1 → ⊥) → head_text (see_query q) text ≡ text
-no-lone-key q ss text are h =
-    ap (λ (y : sx.Query). head_text y text) (query-seen q) ∙ ap (λ (l : List Step). head_text (sx.query (out-Query q).site (of_steps l)) text) (sym are) ∙ not_one (out-Query q).site ss text h
-
-only : (ss : List Step) (x : Step) → length ss ≡ 1 → x ≡ get_or ss 0 x → ss ≡ x ∷ []
-only [] x h is = absurd (omega arith)
-only (y ∷ []) x h is = ap (λ z. z ∷ []) (sym is)
-only (y ∷ z ∷ zs) x h is = absurd (omega arith)
-
-by_key : (o : Option (Bor (List ℕ))) (n : ℕ) (s : sx.Step) (q : sx.Query) → q ≡ sx.query n (sx.more_steps s sx.no_steps)
-    → MatchOption o ((m : ℕ) (text : List ℕ) → head_text (sx.query m (sx.more_steps s sx.no_steps)) text ≡ text) (λ (k : Bor (List ℕ)). (m : ℕ) (text : List ℕ) → head_text (sx.query m (sx.more_steps s sx.no_steps)) text ≡ quoted k.now)
-    → MatchOption o ((text : List ℕ) → head_text q text ≡ text) (λ (k : Bor (List ℕ)). (text : List ℕ) → head_text q text ≡ quoted k.now)
-by_key None n s q is h = λ text. ap (λ (y : sx.Query). head_text y text) is ∙ h n text
-by_key (Some k) n s q is h = λ text. ap (λ (y : sx.Query). head_text y text) is ∙ h n text
-
-pub lone-key : (o : Option (Bor (List ℕ))) (q : Query) (ss : List Step) (x : Step) → ss ≡ (out-Query q).steps.items → length ss ≡ 1 → x ≡ get_or ss 0 x
-    → MatchOption o ((m : ℕ) (text : List ℕ) → head_text (sx.query m (sx.more_steps (see_step x) sx.no_steps)) text ≡ text) (λ (k : Bor (List ℕ)). (m : ℕ) (text : List ℕ) → head_text (sx.query m (sx.more_steps (see_step x) sx.no_steps)) text ≡ quoted k.now)
-    → MatchOption o ((text : List ℕ) → head_text (see_query q) text ≡ text) (λ (k : Bor (List ℕ)). (text : List ℕ) → head_text (see_query q) text ≡ quoted k.now)
-lone-key o q ss x are one is h =
-    by_key o (out-Query q).site (see_step x) (see_query q)
-    (query-seen q ∙ ap (λ (l : List Step). sx.query (out-Query q).site (of_steps l)) (sym are ∙ only ss x one is)) h

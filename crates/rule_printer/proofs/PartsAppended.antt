@@ -23,10 +23,13 @@ use Rattle.guard_syntax.specs.declared.syntax.StepForm.{StepForm}
 use Rattle.guard_syntax.specs.declared.syntax.StepForm as form
 use Rattle.guard_syntax.specs.code.Seen.{see_body, see_conds, see_disj, see_expr, see_form, see_let, see_opt_conds, see_opt_expr, see_part, see_query, see_step}
 use Rattle.rule_names.proofs.Shapes.{block-seen, call-seen, disj-seen, function-seen, kinds-seen, let-seen, query-seen, step-seen, when-seen}
-use Rattle.rule_printer.specs.RuleText.{asked_text, body_text, capture_text, cond_text, conds_text, disj_line, expr_text, head_text, let_line, note_text, operator_text, opt_conds_text, opt_expr_text, part_text, query_text, space_behind, steps_text, word_if}
-use Rattle.rule_printer.specs.code.Printing.{space_in, step_in}
+use Rattle.rule_words.specs.WordText.{capture_text, head_text, note_text, operator_text, space_behind, word_if}
+use Rattle.rule_words.specs.code.Appended.{space_in}
+use Rattle.rule_words.proofs.QueryStarts.{of_steps}
+use Rattle.rule_printer.specs.RuleText.{asked_text, body_text, cond_text, conds_text, disj_line, expr_text, let_line, opt_conds_text, opt_expr_text, part_text, query_text, steps_text}
+use Rattle.rule_printer.specs.code.Printing.{step_in}
 use Rattle.rule_printer.proofs.BlockTexts.{of_body_parts}
-use Rattle.rule_printer.proofs.PartTexts.{of_exprs, of_steps, refer_seen, test_seen, two}
+use Rattle.rule_printer.proofs.PartTexts.{of_exprs, refer_seen, test_seen, two}
 
 asked_seen : (q : Query) → see_expr (expr.Query q) ≡ sx.asked (see_query q)
 asked_seen q = search (rules, the_lemmas)

@@ -12,8 +12,9 @@ use Rattle.guard_syntax.specs.declared.syntax.Op.TheVariants as op
 use Rattle.guard_syntax.specs.Syntax.{Body, Lets, Let, Conds, OptConds, Disjs, Disj, Parts, Part, Query, Steps, Step, Expr, OptExpr, Exprs, Rule, File, body, no_lets, more_lets, assign, conds, no_conds, with_conds, no_disjs, more_disjs, disj, no_parts, more_parts, block, guarded, kinds, test, refer, call, query, no_steps, more_steps, this, var, key, index, every, items, splice, filter, keys, literal, function, asked, found, no_expr, with_expr, no_exprs, more_exprs}
 use Rattle.rule_spelling.specs.Spelling.{quoted}
 use Rattle.rule_spelling.specs.code.Pieces.{Piece, spelled}
+use Rattle.rule_words.specs.WordText.{word_if, operator_text, note_text, is_name, is_free_name, key_text, first_key_text, capture_text, range_text, value_text, entry_key, items_text, more_items_text, entries_text, more_entries_text, literal_text, space_within, head_text, more_names_text, params_text}
 use Rattle.rule_printer.specs.RuleText as t
-use Rattle.rule_printer.specs.RuleText.{within, line, merged, before_each, word_if, operator_word, operator_text, note_text, is_name, is_free_name, key_text, first_key_text, capture_text, range_text, value_text, entry_key, items_text, more_items_text, entries_text, more_entries_text, literal_text, space_behind, space_within, start_text, head_text, body_text, let_lines, let_line, disj_lines, disj_line, parts_text, more_parts_text, part_text, conds_text, disjs_text, more_disjs_text, disj_text, alternatives_text, more_alternatives_text, cond_text, opt_conds_text, query_text, asked_text, steps_text, step_text, expr_text, opt_expr_text, exprs_text, more_exprs_text, more_names_text, params_text, rule_line, rule_lines, rule_text}
+use Rattle.rule_printer.specs.RuleText.{within, line, merged, before_each, start_text, body_text, let_lines, let_line, disj_lines, disj_line, parts_text, more_parts_text, part_text, conds_text, disjs_text, more_disjs_text, disj_text, alternatives_text, more_alternatives_text, cond_text, opt_conds_text, query_text, asked_text, steps_text, step_text, expr_text, opt_expr_text, exprs_text, more_exprs_text, rule_line, rule_lines, rule_text}
 use Rattle.rule_printer.specs.code.RulePieces.{space, new_line, name, str, mark, name_if, operator, note, dotted_key, first_key, capture, range, value, entry, item_pieces, more_item_pieces, entry_pieces, more_entry_pieces, literal_pieces, start, head, Spell, in_a_row, body_pieces, let_items, let_item, disj_items, disj_item, parts_pieces, more_parts_pieces, part_pieces, conds_pieces, disjs_pieces, more_disjs_pieces, disj_pieces, alternatives_pieces, more_alternatives_pieces, cond_pieces, opt_conds_pieces, query_pieces, asked_pieces, steps_pieces, step_pieces, expr_pieces, opt_expr_pieces, exprs_pieces, more_exprs_pieces, more_names, params, rule_item, rule_items, file_items, rule_pieces, end_of, file_end}
 
 module _ (end : List ℕ) where

@@ -1,14 +1,15 @@
 //! Bodies and blocks. They lead back to themselves through braces alone.
 ghost use Rattle.std.specs.Prelude.{◌≡◌, ◌++◌, IfOk, OnOk, codes, map, string_bytes};
 ghost use Rattle.guard_syntax.specs.code.Seen.{part_list, see_body, see_disj, see_opt_conds, see_part, see_query};
-ghost use Rattle.rule_printer.specs.RuleText.{body_text, disj_line, head_text, opt_conds_text, part_text, parts_text, query_text, within};
+ghost use Rattle.rule_words.specs.WordText.{head_text};
+ghost use Rattle.rule_printer.specs.RuleText.{body_text, disj_line, opt_conds_text, part_text, parts_text, query_text, within};
 
 use crate::conditions::{push_cond, push_conds, push_query};
 use crate::lets::{push_lets, push_lets_before};
-use crate::starts::lone_key;
-use crate::words::{push_between, push_word_if};
 use guard_syntax::{Body, Conds, Disj, Part, Query};
 use rule_spelling::push_quoted;
+use rule_words::starts::lone_key;
+use rule_words::words::{push_between, push_word_if};
 use std::alloc::{AllocError, Global};
 
 /// A margin of two spaces more.

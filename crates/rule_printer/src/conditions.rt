@@ -1,17 +1,20 @@
 //! Conditions, queries and expressions. They lead back to themselves through brackets alone.
-ghost use Rattle.std.specs.Prelude.{◌≡◌, ◌++◌, OnOk, codes, drop, map, string_bytes};
+ghost use Rattle.std.specs.Prelude.{◌≡◌, ◌++◌, ℕ, OnOk, codes, drop, map, string_bytes};
+ghost use Rattle.guard_syntax.specs.Syntax as sx;
 ghost use Rattle.guard_syntax.specs.code.Seen.{expr_list, part_list, see_conds, see_expr, see_opt_expr, see_part, see_query, see_step, step_list};
 ghost use Rattle.rule_printer.specs.RuleText.{alternatives_text, asked_text, cond_text, conds_text, expr_text, exprs_text, opt_expr_text, query_text, steps_text};
 ghost use Rattle.rule_printer.specs.code.Printing.{step_in};
 
-use crate::literals::push_literal;
-use crate::names::{push_function_name, push_key, push_keys_test, push_opened};
-use crate::starts::push_space_within;
-use crate::words::{
+use guard_syntax::{Conds, Expr, Part, Query, Step, StepForm};
+use rule_words::literals::push_literal;
+use rule_words::names::{
+    push_dotted_key, push_first_key, push_function_name, push_keys_test, push_opened,
+};
+use rule_words::starts::push_space_within;
+use rule_words::words::{
     push_between, push_index, push_note, push_rule_name, push_signed, push_spaced_operator,
     push_word_if,
 };
-use guard_syntax::{Conds, Expr, Part, Query, Step, StepForm};
 use std::alloc::AllocError;
 
 /// Appends conditions.
@@ -134,6 +137,17 @@ fn push_steps(out: &mut String, steps: &[Step], from: usize) -> Result<(), Alloc
         push_step(out, false, &steps[i])?;
     }
     Ok(())
+}
+
+/// Appends a key that is a step of a query, the first or a further one.
+fn push_key(out: &mut String, first: bool, key: &str) -> Result<(), AllocError>
+    ensures { (n : ℕ) → OnOk result (string_bytes out.new ≡ string_bytes out.old ++ step_in first (sx.key n key.now)) }
+{
+    if first {
+        push_first_key(out, key)
+    } else {
+        push_dotted_key(out, key)
+    }
 }
 
 /// Appends a step, the first of its query or a further one.

@@ -5,8 +5,8 @@ ghost use Rattle.rule_printer.specs.RuleText.{in_a_row, let_line, merged};
 ghost use Rattle.rule_printer.specs.code.Printing.{lets_from};
 
 use crate::conditions::push_expr;
-use crate::words::push_signed;
 use guard_syntax::Let;
+use rule_words::words::push_signed;
 use std::alloc::AllocError;
 
 /// Appends the line of a let.

@@ -6,9 +6,9 @@ ghost use Rattle.rule_printer.specs.code.Printing.{lets_from, rules_from};
 
 use crate::blocks::{push_body, push_disj, push_when};
 use crate::lets::{push_lets, push_lets_before};
-use crate::names::push_params;
-use crate::words::push_signed;
-use guard_syntax::{Let, RawFile, Rule};
+use guard_syntax::{RawFile, Rule};
+use rule_words::names::push_params;
+use rule_words::words::push_signed;
 use std::alloc::{AllocError, Global};
 
 /// The first let and the first rule of a file that are not appended yet.
@@ -33,15 +33,16 @@ fn push_rule(alloc: Global, out: &mut String, rule: &Rule) -> Result<(), AllocEr
 fn push_before(
     alloc: Global,
     out: &mut String,
-    lets: &[Let],
-    rules: &[Rule],
+    file: &RawFile,
     from: Next,
     site: u32,
 ) -> Result<Next, AllocError>
     ensures { IfOk result (λ next. (text : List ℕ) (others : List (ℕ × List ℕ)) →
-        string_bytes out.new ++ in_a_row ((site, text) ∷ merged (lets_from [] lets.now next.at_let) (merged (rules_from rules.now next.at_rule) others))
-        ≡ string_bytes out.old ++ in_a_row (merged (lets_from [] lets.now from.at_let) (merged (rules_from rules.now from.at_rule) ((site, text) ∷ others)))) }
+        string_bytes out.new ++ in_a_row ((site, text) ∷ merged (lets_from [] file.now.lets.items next.at_let) (merged (rules_from file.now.rules.items next.at_rule) others))
+        ≡ string_bytes out.old ++ in_a_row (merged (lets_from [] file.now.lets.items from.at_let) (merged (rules_from file.now.rules.items from.at_rule) ((site, text) ∷ others)))) }
 {
+    let lets = file.lets.as_slice();
+    let rules = file.rules.as_slice();
     let mut at_let = from.at_let;
     for at_rule in from.at_rule..rules.len() {
         let rule = &rules[at_rule];
@@ -60,15 +61,11 @@ fn push_before(
 }
 
 /// Appends the lines of the lets and rules that are left.
-fn push_left(
-    alloc: Global,
-    out: &mut String,
-    lets: &[Let],
-    rules: &[Rule],
-    from: Next,
-) -> Result<(), AllocError>
-    ensures { OnOk result (string_bytes out.new ≡ string_bytes out.old ++ in_a_row (merged (lets_from [] lets.now from.at_let) (rules_from rules.now from.at_rule))) }
+fn push_left(alloc: Global, out: &mut String, file: &RawFile, from: Next) -> Result<(), AllocError>
+    ensures { OnOk result (string_bytes out.new ≡ string_bytes out.old ++ in_a_row (merged (lets_from [] file.now.lets.items from.at_let) (rules_from file.now.rules.items from.at_rule))) }
 {
+    let lets = file.lets.as_slice();
+    let rules = file.rules.as_slice();
     let mut at_let = from.at_let;
     for at_rule in from.at_rule..rules.len() {
         let rule = &rules[at_rule];
@@ -82,18 +79,16 @@ fn push_left(
 fn push_file(alloc: Global, out: &mut String, file: &RawFile) -> Result<(), AllocError>
     ensures { OnOk result (string_bytes out.new ≡ string_bytes out.old ++ rule_text (see_file file.now)) }
 {
-    let lets = file.lets.as_slice();
-    let rules = file.rules.as_slice();
     let disjs = file.loose.as_slice();
     let mut next = Next {
         at_let: 0,
         at_rule: 0,
     };
     for disj in disjs {
-        next = push_before(alloc, out, lets, rules, next, disj.site)?;
+        next = push_before(alloc, out, file, next, disj.site)?;
         push_disj(alloc, out, "", disj)?;
     }
-    push_left(alloc, out, lets, rules, next)
+    push_left(alloc, out, file, next)
 }
 
 /// The canonical text of a rule file.

@@ -7,7 +7,7 @@ use Rattle.literal_parser.specs.Forms.{word_form, is_bar, is_lparen, is_note, be
 use Rattle.literal_parser.specs.States.{State, Rel}
 use Rattle.rule_spelling.specs.Spelling.{quoted, pattern_text}
 use Rattle.rule_spelling.specs.code.Pieces.{Piece, note_spelling}
-use Rattle.rule_printer.specs.RuleText.{is_name}
+use Rattle.rule_words.specs.WordText.{is_name}
 
 -- a text is read back from its quotes
 abbrev pub IsQuotable : List ℕ → Type 0

@@ -19,7 +19,8 @@ use Rattle.guard_syntax.specs.Syntax.{Body, Lets, Let, Conds, OptConds, Disjs, D
 use Rattle.rule_meaning.specs.Functions.{truth_text}
 use Rattle.rule_spelling.specs.Spelling.{quoted, pattern_text, number_text}
 use Rattle.rule_spelling.specs.code.Pieces.{Piece}
-use Rattle.rule_printer.specs.RuleText.{within, merged, operator_word, is_name, is_free_name, space_within, space_behind}
+use Rattle.rule_words.specs.WordText.{operator_word, is_name, is_free_name, space_within, space_behind}
+use Rattle.rule_printer.specs.RuleText.{within, merged}
 
 -- ---- gaps
 

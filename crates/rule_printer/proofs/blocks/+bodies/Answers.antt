@@ -2,9 +2,9 @@ use Rattle.std.proofs.Common.{◌≡◌, ◌++◌, ◌∙◌, ℕ, List, ap, cod
 use Rattle.std.proofs.lemmas.Result.{on_ok_weaker}
 use Rattle.guard_syntax.specs.code.Seen.{see_part}
 use Rattle.guard_syntax.specs.declared.syntax.Part.{Part}
+use Rattle.rule_words.proofs.InARow.{row-next, row-end}
 use Rattle.rule_printer.specs.RuleText.{in_a_row, merged, part_text}
 use Rattle.rule_printer.specs.code.Printing.{disjs_from, lets_from}
-use Rattle.rule_printer.proofs.InARow.{row-next, row-end}
 use Rattle.rule_printer.proofs.BlockTexts.{of_body_parts, of_more_body_parts, body-parts-joined}
 use Rattle.rule_printer.proofs.LinesInTurn.{body-text, disj-end, disj-next}
 use Rattle.rule_printer.proofs.PartsAppended.{all_room, block-added, disj-added, kinds-added, when-added}

@@ -1,7 +1,7 @@
 use Rattle.std.proofs.Common.{◌≡◌, ◌++◌, drop, string_bytes}
+use Rattle.rule_words.proofs.InARow.{left}
 use Rattle.rule_printer.specs.RuleText.{in_a_row, merged}
 use Rattle.rule_printer.specs.code.Printing.{disjs_from, lets_from}
-use Rattle.rule_printer.proofs.InARow.{left}
 use Rattle.rule_printer.proofs.BlockTexts.{of_body_parts, of_more_body_parts}
 use Rattle.rule_printer.proofs.blocks.+bodies.Given as goal
 

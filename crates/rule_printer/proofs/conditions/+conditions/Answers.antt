@@ -4,8 +4,8 @@ use Rattle.guard_syntax.specs.code.Seen.{see_disj, see_expr, see_part}
 use Rattle.guard_syntax.specs.declared.syntax.Disj.{Disj}
 use Rattle.guard_syntax.specs.declared.syntax.Expr.{Expr}
 use Rattle.guard_syntax.specs.declared.syntax.Part.{Part}
+use Rattle.rule_words.proofs.InARow.{row-next, row-end}
 use Rattle.rule_printer.specs.RuleText.{cond_text, disj_text, expr_text}
-use Rattle.rule_printer.proofs.InARow.{row-next, row-end}
 use Rattle.rule_printer.proofs.PartTexts.{of_disjs, of_more_disjs, disjs-joined, disj-parts, conds-disjs, of_exprs, of_more_exprs, exprs-joined, of_parts, of_more_parts, parts-joined, steps-next, steps-end}
 use Rattle.rule_printer.proofs.PartsAppended.{all_room, appended_to, asked-added, asked-empty, call-added, every-added, filter-added, found-added, function-added, index-added, items-added, key-added, keys-added, query-added, query-asked-added, no_steps, query-empty, refer-added, some_steps, splice-added, test-added, this-added, var-added}
 use Rattle.rule_printer.proofs.conditions.+conditions.Goals as goal

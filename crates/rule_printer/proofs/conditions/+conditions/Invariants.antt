@@ -1,7 +1,8 @@
 use Rattle.std.proofs.Common.{◌≡◌, ◌++◌, codes, drop, string_bytes}
+use Rattle.rule_words.proofs.InARow.{left}
+use Rattle.rule_words.proofs.QueryStarts.{of_steps}
 use Rattle.rule_printer.specs.RuleText.{steps_text}
-use Rattle.rule_printer.proofs.InARow.{left}
-use Rattle.rule_printer.proofs.PartTexts.{of_disjs, of_more_disjs, of_parts, of_more_parts, of_exprs, of_more_exprs, of_steps}
+use Rattle.rule_printer.proofs.PartTexts.{of_disjs, of_more_disjs, of_parts, of_more_parts, of_exprs, of_more_exprs}
 use Rattle.rule_printer.proofs.conditions.+conditions.Given as goal
 
 abbrev pub invariant-push_conds-loop-i : goal.invariant-push_conds-loop-i

@@ -6,4 +6,4 @@ use Rattle.rule_printer.proofs.print.push_before.Given as goal
 abbrev pub invariant-loop-at_rule : goal.invariant-loop-at_rule
 invariant-loop-at_rule l =
     (text : List ℕ) (others : List (ℕ × List ℕ)) → string_bytes l.out ++ in_a_row (merged (lets_from [] l.lets l.at_let) (merged (rules_from l.rules l.at_rule) ((l.site, text) ∷ others)))
-    ≡ string_bytes l.fn.out ++ in_a_row (merged (lets_from [] l.lets l.fn.from.at_let) (merged (rules_from l.rules l.fn.from.at_rule) ((l.site, text) ∷ others)))
+    ≡ string_bytes l.fn.out ++ in_a_row (merged (lets_from [] l.file.lets.items l.fn.from.at_let) (merged (rules_from l.file.rules.items l.fn.from.at_rule) ((l.site, text) ∷ others)))

@@ -5,5 +5,5 @@ use Rattle.rule_printer.proofs.print.push_file.Given as goal
 
 abbrev pub invariant-loop-disj : goal.invariant-loop-disj
 invariant-loop-disj l =
-    string_bytes l.out ++ in_a_row (merged (lets_from [] l.lets l.next.at_let) (merged (rules_from l.rules l.next.at_rule) (disjs_from [] l.disjs l.disj-index)))
-    ≡ string_bytes l.fn.out ++ in_a_row (merged (lets_from [] l.lets 0) (merged (rules_from l.rules 0) (disjs_from [] l.disjs 0)))
+    string_bytes l.out ++ in_a_row (merged (lets_from [] l.file.lets.items l.next.at_let) (merged (rules_from l.file.rules.items l.next.at_rule) (disjs_from [] l.disjs l.disj-index)))
+    ≡ string_bytes l.fn.out ++ in_a_row (merged (lets_from [] l.file.lets.items 0) (merged (rules_from l.file.rules.items 0) (disjs_from [] l.disjs 0)))

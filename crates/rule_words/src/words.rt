@@ -1,18 +1,14 @@
 //! Words and signs between the parts of a text.
 ghost use Rattle.std.specs.Prelude.{◌≡◌, ◌++◌, OnOk, codes, decimal, string_bytes};
-ghost use Rattle.rule_printer.specs.RuleText.{note_text, operator_text, operator_word, word_if};
-ghost use Rattle.rule_printer.specs.code.Printing.{between};
+ghost use Rattle.rule_words.specs.WordText.{note_text, operator_text, operator_word, word_if};
+ghost use Rattle.rule_words.specs.code.Appended.{between};
 
 use guard_syntax::{Op, Text};
 use itoa::Buffer;
 use std::alloc::AllocError;
 
 /// Appends what stands in front of the item at an index: nothing in front of the first, a separator in front of each other.
-pub(crate) fn push_between(
-    out: &mut String,
-    index: usize,
-    separator: &str,
-) -> Result<(), AllocError>
+pub fn push_between(out: &mut String, index: usize, separator: &str) -> Result<(), AllocError>
     ensures { OnOk result (string_bytes out.new ≡ string_bytes out.old ++ between index separator.now) }
 {
     match index {
@@ -22,14 +18,14 @@ pub(crate) fn push_between(
 }
 
 /// Appends a word, if it is there.
-pub(crate) fn push_word_if(out: &mut String, there: bool, word: &str) -> Result<(), AllocError>
+pub fn push_word_if(out: &mut String, there: bool, word: &str) -> Result<(), AllocError>
     ensures { OnOk result (string_bytes out.new ≡ string_bytes out.old ++ word_if there word.now) }
 {
     if there { out.push_str(word) } else { Ok(()) }
 }
 
 /// Appends a name or a message behind its sign.
-pub(crate) fn push_signed(out: &mut String, sign: &str, name: &str) -> Result<(), AllocError>
+pub fn push_signed(out: &mut String, sign: &str, name: &str) -> Result<(), AllocError>
     ensures { OnOk result (string_bytes out.new ≡ (string_bytes out.old ++ sign.now) ++ name.now) }
 {
     out.push_str(sign)?;
@@ -75,7 +71,7 @@ pub(crate) fn push_operator(out: &mut String, op: Op, not: bool) -> Result<(), A
 }
 
 /// Appends an operator, with the space in front.
-pub(crate) fn push_spaced_operator(out: &mut String, op: Op, not: bool) -> Result<(), AllocError>
+pub fn push_spaced_operator(out: &mut String, op: Op, not: bool) -> Result<(), AllocError>
     ensures { OnOk result (string_bytes out.new ≡ (string_bytes out.old ++ codes " ") ++ operator_text op not) }
 {
     out.push_str(" ")?;
@@ -83,7 +79,7 @@ pub(crate) fn push_spaced_operator(out: &mut String, op: Op, not: bool) -> Resul
 }
 
 /// Appends the name of a rule, negated or not.
-pub(crate) fn push_rule_name(out: &mut String, not: bool, name: &str) -> Result<(), AllocError>
+pub fn push_rule_name(out: &mut String, not: bool, name: &str) -> Result<(), AllocError>
     ensures { OnOk result (string_bytes out.new ≡ (string_bytes out.old ++ word_if not (codes "not ")) ++ name.now) }
 {
     push_word_if(out, not, "not ")?;
@@ -91,7 +87,7 @@ pub(crate) fn push_rule_name(out: &mut String, not: bool, name: &str) -> Result<
 }
 
 /// Appends the message of a part, if it has one.
-pub(crate) fn push_note(out: &mut String, note: &Option<Text>) -> Result<(), AllocError>
+pub fn push_note(out: &mut String, note: &Option<Text>) -> Result<(), AllocError>
     ensures { OnOk result (string_bytes out.new ≡ string_bytes out.old ++ note_text note.now) }
 {
     match note {
@@ -104,7 +100,7 @@ pub(crate) fn push_note(out: &mut String, note: &Option<Text>) -> Result<(), All
 }
 
 /// Appends an index behind a dot, with the dot.
-pub(crate) fn push_index(out: &mut String, index: u32) -> Result<(), AllocError>
+pub fn push_index(out: &mut String, index: u32) -> Result<(), AllocError>
     ensures { OnOk result (string_bytes out.new ≡ string_bytes out.old ++ (codes "." ++ decimal index)) }
 {
     let mut digits = Buffer::new();

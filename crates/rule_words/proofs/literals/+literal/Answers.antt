@@ -1,9 +1,9 @@
 use Rattle.std.proofs.Common.{◌<◌, ◌≤◌, arith, string_bytes}
 use Rattle.doc_values.specs.Tree.{count}
 use Rattle.doc_values.specs.Places.{kids_at}
-use Rattle.rule_printer.proofs.NodesWithin.{is_at}
-use Rattle.rule_printer.proofs.NodeTexts.{items-next, items-end, entries-next, entries-end}
-use Rattle.rule_printer.proofs.literals.+literal.Goals as goal
+use Rattle.rule_words.proofs.NodesWithin.{is_at}
+use Rattle.rule_words.proofs.NodeTexts.{items-next, items-end, entries-next, entries-end}
+use Rattle.rule_words.proofs.literals.+literal.Goals as goal
 
 pub push_items-push_value-requires : goal.push_items-push_value-requires
 push_items-push_value-requires t c =

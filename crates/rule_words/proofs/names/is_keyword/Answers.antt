@@ -1,7 +1,7 @@
 use Rattle.std.proofs.Common.{◌∙◌, refl}
 use Rattle.literal_parser.specs.Lexemes.{keyword_of, reserved}
-use Rattle.rule_printer.proofs.KeywordTable.{is_among-keyword}
-use Rattle.rule_printer.proofs.names.is_keyword.Goals as goal
+use Rattle.rule_words.proofs.KeywordTable.{is_among-keyword}
+use Rattle.rule_words.proofs.names.is_keyword.Goals as goal
 
 pub returns : goal.returns
 unfolding keyword_of

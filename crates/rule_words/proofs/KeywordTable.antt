@@ -4,7 +4,7 @@ use Rattle.std.specs.Prelude.{find}
 use Rattle.std.specs.List.{list_any}
 use Rattle.literal_parser.specs.declared.keyword.Keyword.{Keyword}
 use Rattle.literal_parser.specs.Lexemes.{keyword_in}
-use Rattle.rule_printer.specs.code.Printing.{is_among}
+use Rattle.rule_words.specs.code.Appended.{is_among}
 
 abbrev Row : Type 0
 Row = List ℕ × Keyword

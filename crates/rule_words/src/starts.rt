@@ -3,8 +3,8 @@ ghost use Rattle.std.specs.Prelude.{◌≡◌, ◌++◌, ℕ, List, MatchOption,
 ghost use Rattle.guard_syntax.specs.Syntax as sx;
 ghost use Rattle.guard_syntax.specs.code.Seen.{see_query, see_step, step_list};
 ghost use Rattle.rule_spelling.specs.Spelling.{quoted};
-ghost use Rattle.rule_printer.specs.RuleText.{head_text, is_bracketed};
-ghost use Rattle.rule_printer.specs.code.Printing.{is_r, space_in};
+ghost use Rattle.rule_words.specs.WordText.{head_text, is_bracketed};
+ghost use Rattle.rule_words.specs.code.Appended.{is_r, space_in};
 
 use guard_syntax::{Query, Step, StepForm};
 use std::alloc::AllocError;
@@ -30,7 +30,7 @@ fn is_bracketed(step: &Step) -> bool
 }
 
 /// Appends the space behind the first step of an expression, where a range would begin without it.
-pub(crate) fn push_space_within(out: &mut String, steps: &[Step]) -> Result<(), AllocError>
+pub fn push_space_within(out: &mut String, steps: &[Step]) -> Result<(), AllocError>
     ensures { OnOk result (string_bytes out.new ≡ string_bytes out.old ++ space_in (step_list (map see_step steps.now))) }
 {
     if steps.len() < 2 {
@@ -44,7 +44,7 @@ pub(crate) fn push_space_within(out: &mut String, steps: &[Step]) -> Result<(), 
 }
 
 /// The key that alone is the head of a block.
-pub(crate) fn lone_key(head: &Query) -> Option<&str>
+pub fn lone_key(head: &Query) -> Option<&str>
     ensures { MatchOption result ((text : List ℕ) → head_text (see_query head.entry.now) text ≡ text) (λ key. (text : List ℕ) → head_text (see_query head.entry.now) text ≡ quoted key.now) }
 {
     let steps = head.steps.as_slice();

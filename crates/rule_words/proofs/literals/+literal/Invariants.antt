@@ -1,10 +1,10 @@
 use Rattle.std.proofs.Common.{◌≡◌, ◌++◌, ◌+◌, ◌*◌, string_bytes}
 use Rattle.doc_values.specs.Tree.{size}
 use Rattle.doc_values.specs.Places.{kids_at}
-use Rattle.rule_printer.proofs.NodesWithin.{from_index}
-use Rattle.rule_printer.specs.RuleText.{items_text, more_items_text, entries_text, more_entries_text}
-use Rattle.rule_printer.proofs.InARow.{left}
-use Rattle.rule_printer.proofs.literals.+literal.Given as goal
+use Rattle.rule_words.proofs.NodesWithin.{from_index}
+use Rattle.rule_words.specs.WordText.{items_text, more_items_text, entries_text, more_entries_text}
+use Rattle.rule_words.proofs.InARow.{left}
+use Rattle.rule_words.proofs.literals.+literal.Given as goal
 
 abbrev pub decreases-push_value : goal.decreases-push_value
 decreases-push_value l = 2 * size (kids_at l.node.doc.now l.node.id) + 1

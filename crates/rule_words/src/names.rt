@@ -1,12 +1,11 @@
 //! Names, and keys that are spelled as names.
-ghost use Rattle.std.specs.Prelude.{◌≡◌, ◌++◌, ℕ, OnOk, codes, is_some, string_bytes};
+ghost use Rattle.std.specs.Prelude.{◌≡◌, ◌++◌, OnOk, codes, is_some, string_bytes};
 ghost use Rattle.std.specs.List.{list_all};
 ghost use Rattle.decimals.specs.Number.{is_digit};
 ghost use Rattle.guard_lexer.specs.Bytes.{is_letter, is_word};
-ghost use Rattle.guard_syntax.specs.Syntax as sx;
 ghost use Rattle.literal_parser.specs.Lexemes.{keyword_of};
-ghost use Rattle.rule_printer.specs.RuleText.{capture_text, first_key_text, is_free_name, is_name, key_text, names_text, operator_text, params_text, space_behind};
-ghost use Rattle.rule_printer.specs.code.Printing.{is_among, step_in};
+ghost use Rattle.rule_words.specs.WordText.{capture_text, first_key_text, is_free_name, is_name, key_text, names_text, operator_text, params_text, space_behind};
+ghost use Rattle.rule_words.specs.code.Appended.{is_among};
 
 use crate::words::{push_between, push_operator};
 use guard_syntax::{Name, Op};
@@ -95,7 +94,7 @@ fn is_name(text: &str) -> bool
 }
 
 /// Whether a name is one of some words.
-#[tactic(auto, unfolding(crate::specs::code::Printing::is_among))]
+#[tactic(auto, unfolding(crate::specs::code::Appended::is_among))]
 fn is_among(words: &[&str], name: &str) -> bool
     ensures { result ≡ is_among words.now name.now }
 {
@@ -117,7 +116,7 @@ fn is_free_name(text: &str) -> bool
 }
 
 /// Appends a key behind a dot, with the dot.
-fn push_dotted_key(out: &mut String, key: &str) -> Result<(), AllocError>
+pub fn push_dotted_key(out: &mut String, key: &str) -> Result<(), AllocError>
     ensures { OnOk result (string_bytes out.new ≡ string_bytes out.old ++ (codes "." ++ key_text key.now)) }
 {
     out.push_str(".")?;
@@ -129,24 +128,13 @@ fn push_dotted_key(out: &mut String, key: &str) -> Result<(), AllocError>
 }
 
 /// Appends a key that begins a query.
-fn push_first_key(out: &mut String, key: &str) -> Result<(), AllocError>
+pub fn push_first_key(out: &mut String, key: &str) -> Result<(), AllocError>
     ensures { OnOk result (string_bytes out.new ≡ string_bytes out.old ++ first_key_text key.now) }
 {
     if is_free_name(key) {
         out.push_str(key)
     } else {
         push_quoted(out, key)
-    }
-}
-
-/// Appends a key that is a step of a query, the first or a further one.
-pub(crate) fn push_key(out: &mut String, first: bool, key: &str) -> Result<(), AllocError>
-    ensures { (n : ℕ) → OnOk result (string_bytes out.new ≡ string_bytes out.old ++ step_in first (sx.key n key.now)) }
-{
-    if first {
-        push_first_key(out, key)
-    } else {
-        push_dotted_key(out, key)
     }
 }
 
@@ -162,7 +150,7 @@ fn push_space_behind(out: &mut String, name: &str) -> Result<(), AllocError>
 }
 
 /// Appends the name of a function, with the space behind it where it needs one.
-pub(crate) fn push_function_name(out: &mut String, name: &str) -> Result<(), AllocError>
+pub fn push_function_name(out: &mut String, name: &str) -> Result<(), AllocError>
     ensures { OnOk result (string_bytes out.new ≡ (string_bytes out.old ++ name.now) ++ space_behind name.now) }
 {
     out.push_str(name)?;
@@ -183,7 +171,7 @@ fn push_capture(out: &mut String, capture: &Option<Name>) -> Result<(), AllocErr
 }
 
 /// Appends the bracket of a filter, and its capture if it has one.
-pub(crate) fn push_opened(out: &mut String, capture: &Option<Name>) -> Result<(), AllocError>
+pub fn push_opened(out: &mut String, capture: &Option<Name>) -> Result<(), AllocError>
     ensures { OnOk result (string_bytes out.new ≡ (string_bytes out.old ++ codes "[ ") ++ capture_text capture.now) }
 {
     out.push_str("[ ")?;
@@ -191,7 +179,7 @@ pub(crate) fn push_opened(out: &mut String, capture: &Option<Name>) -> Result<()
 }
 
 /// Appends a filter on keys, up to its right side.
-pub(crate) fn push_keys_test(
+pub fn push_keys_test(
     out: &mut String,
     capture: &Option<Name>,
     op: Op,
@@ -217,7 +205,7 @@ fn push_names(out: &mut String, names: &[Name]) -> Result<(), AllocError>
 }
 
 /// Appends the parameters of a rule, if it has some.
-pub(crate) fn push_params(out: &mut String, params: &[Name]) -> Result<(), AllocError>
+pub fn push_params(out: &mut String, params: &[Name]) -> Result<(), AllocError>
     ensures { OnOk result (string_bytes out.new ≡ string_bytes out.old ++ params_text params.now) }
 {
     if params.is_empty() {

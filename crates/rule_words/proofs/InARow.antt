@@ -1,7 +1,7 @@
 -- What is appended item by item: the texts of the items in a row, with a separator between them.
 use Rattle.std.proofs.Common.{◌≡◌, ℕ, zero, suc, ◌+◌, ◌<◌, ◌≤◌, List, [], ◌∷◌, ◌++◌, get_or, drop, length, refl, sym, ap, ◌∙◌, add-one, append-nil, append_assoc}
 use Rattle.std.proofs.lemmas.List.{drop_more, drop_all}
-use Rattle.rule_printer.specs.code.Printing.{between}
+use Rattle.rule_words.specs.code.Appended.{between}
 
 -- a separator, a text, and what is left
 pub appended : (start old middle new separator text left rest : List ℕ) → middle ≡ old ++ separator → new ≡ middle ++ text → left ≡ separator ++ (text ++ rest) → old ++ left ≡ start → new ++ rest ≡ start

@@ -2,10 +2,10 @@
 use Rattle.std.proofs.Common.{◌≡◌, ℕ, zero, suc, ◌+◌, ◌<◌, ◌≤◌, List, [], ◌++◌, Option, Some, None, MatchOption, option_map, codes, refl, sym, ap, ap₂, ◌∙◌, append_assoc, Bor}
 use Rattle.doc_values.specs.Tree.{Label, Forest, Nil, Node, count}
 use Rattle.doc_values.specs.Places.{first_label, first_kids, label_at, kids_at}
-use Rattle.rule_printer.specs.RuleText.{entries_text, entry_key, items_text, more_entries_text, more_items_text, value_text}
-use Rattle.rule_printer.specs.code.Printing.{between, node_text}
-use Rattle.rule_printer.proofs.InARow.{appended, ended, left, left-more}
-use Rattle.rule_printer.proofs.NodesWithin.{from_index, index_step, index_end}
+use Rattle.rule_words.specs.WordText.{entries_text, entry_key, items_text, more_entries_text, more_items_text, value_text}
+use Rattle.rule_words.specs.code.Appended.{between, node_text}
+use Rattle.rule_words.proofs.InARow.{appended, ended, left, left-more}
+use Rattle.rule_words.proofs.NodesWithin.{from_index, index_step, index_end}
 
 abbrev text_of : Label → Forest → List ℕ
 text_of l kids = value_text l l.kind (items_text kids) (entries_text kids)

@@ -1,8 +1,8 @@
 //! Literals. They lead back to themselves through brackets alone.
 ghost use Rattle.std.specs.Prelude.{◌≡◌, ◌++◌, OnOk, codes, option_map, string_bytes, if◌then◌else◌};
 ghost use Rattle.doc_values.specs.Places.{label_at, kids_at};
-ghost use Rattle.rule_printer.specs.RuleText.{entries_text, entry_key, items_text, literal_text, range_text};
-ghost use Rattle.rule_printer.specs.code.Printing.{node_text};
+ghost use Rattle.rule_words.specs.WordText.{entries_text, entry_key, items_text, literal_text, range_text};
+ghost use Rattle.rule_words.specs.code.Appended.{node_text};
 
 use crate::words::push_between;
 use doc_values::{Cursor, Doc, Kind, Range};
@@ -94,7 +94,7 @@ fn push_entries(out: &mut String, map: Cursor<'_, '_>) -> Result<(), AllocError>
 }
 
 /// Appends a literal.
-pub(crate) fn push_literal(out: &mut String, tree: &Doc<'_>) -> Result<(), AllocError>
+pub fn push_literal(out: &mut String, tree: &Doc<'_>) -> Result<(), AllocError>
     ensures { OnOk result (string_bytes out.new ≡ string_bytes out.old ++ literal_text tree.now) }
 {
     if tree.len() == 0 {

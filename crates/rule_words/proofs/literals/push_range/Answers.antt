@@ -1,6 +1,6 @@
 use Rattle.std.proofs.Common.{arith}
 use Rattle.std.proofs.lemmas.Grind.{common_steps}
-use Rattle.rule_printer.proofs.literals.push_range.Goals as goal
+use Rattle.rule_words.proofs.literals.push_range.Goals as goal
 
 pub returns : goal.returns
 returns c = grind (arith, common_steps)

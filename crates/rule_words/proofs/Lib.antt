@@ -1,0 +1,5 @@
+pub mod InARow
+pub mod QueryStarts
+mod KeywordTable
+mod NodeTexts
+mod NodesWithin
