@@ -2,16 +2,13 @@
 use Rattle.std.proofs.Common.{◌≡◌, Bool, true, false, ap, sym, subst, ◌∙◌, List, [], MatchBool, MatchOption, Option, Some, None, Vec, Global}
 use Rattle.std.specs.List.{list_all}
 use Rattle.std.proofs.lemmas.Bool.{true≢false}
-use Rattle.std.proofs.lemmas.List.{append-nil}
 use Rattle.evidence_lines.specs.declared.line.Line.{Line}
 use Rattle.guard_builtins.specs.code.Seen.{is_plain}
 use Rattle.guard_builtins.specs.declared.made.Made as types
 use Rattle.rule_meaning.specs.StoreModel.{StoreModel, Made}
 use Rattle.rule_meaning.specs.Seeing.{grown}
-use Rattle.evidence_checker.specs.code.Makes.{IsMade, Makes, trees_of}
-
-pub grown-nothing : (known : StoreModel) → grown known [] ≡ known
-grown-nothing known = ap (λ (ms : List Made). record { template = known.template; file = known.file; made = ms }) (append-nil known.made)
+use Rattle.evidence_rows.specs.code.Makes.{IsMade, Makes, trees_of}
+use Rattle.evidence_rows.proofs.KeptTrees.{grown-nothing}
 
 module _ (known : StoreModel) (lines : List Line) (Holds : List Made → Type 0) (Then : StoreModel → Type 0) where
   -- where it is told whether a line follows, and it makes nothing known

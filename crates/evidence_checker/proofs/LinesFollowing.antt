@@ -25,7 +25,7 @@ use Rattle.evidence_rules.specs.CitedLines.{scope_of}
 use Rattle.evidence_rules.specs.Follows.{Follows, FollowsAtExpr, FollowsIn, FollowsRows, FollowsVerdict, IsFileLine, IsFrameOf, home_for}
 use Rattle.rule_meaning.specs.Roots.{literal_ref, root_ref}
 use Rattle.evidence_lookups.specs.code.Said.{IsSound, is_known_outcome}
-use Rattle.evidence_checker.specs.code.Makes.{IsMade}
+use Rattle.evidence_rows.specs.code.Makes.{IsMade}
 use Rattle.evidence_checker.proofs.Leading.{made-alike, nothing-made}
 use Rattle.evidence_checker.proofs.SitesPlaced.{placed-nowhere}
 

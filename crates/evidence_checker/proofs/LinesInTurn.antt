@@ -19,9 +19,9 @@ use Rattle.evidence_rules.proofs.FollowingShapes.{follows-shape}
 use Rattle.evidence_rules.proofs.LinesBehind.{line-there, next-line}
 use Rattle.evidence_lookups.specs.code.JudgedSites.{AreJudged}
 use Rattle.evidence_lookups.specs.code.Said.{AreMadeWithin, AreSound, IsSound}
+use Rattle.evidence_rows.specs.code.Makes.{Makes, trees_of}
+use Rattle.evidence_rows.proofs.KeptTrees.{within-grown}
 use Rattle.evidence_checker.specs.code.Judging.{IsFaultAt, IsKnownBehind, Leads}
-use Rattle.evidence_checker.specs.code.Makes.{Makes, trees_of}
-use Rattle.evidence_checker.proofs.KeptTrees.{within-grown}
 use Rattle.evidence_checker.proofs.KnownBehind.{all-follow, behind-more, stuck}
 use Rattle.evidence_checker.proofs.LinesFollowing.{sited-within}
 use Rattle.evidence_checker.proofs.SoundLines.{sound-behind}

@@ -17,8 +17,8 @@ use Rattle.rule_meaning.specs.StoreModel.{StoreModel}
 use Rattle.evidence_rules.specs.CitedLines.{IsLine, body_site}
 use Rattle.evidence_rules.specs.Follows.{Behind, FollowsRowsOf, SayRows, SaysBody, block_stop, is_stop, missing_fails}
 use Rattle.rule_meaning.specs.Verdicts.{block_verdict}
+use Rattle.evidence_rows.proofs.SaidOnce.{same-body}
 use Rattle.evidence_checker.specs.code.FirstCites.{SaysRow}
-use Rattle.evidence_checker.proofs.SaidOnce.{same-body}
 
 -- a body on rows, behind rows that have a verdict already
 abbrev pub FollowsOn : StoreModel → List Line → (frame : ℕ) → (any : Bool) → Version → sx.Body → (before : Verdict) → List Row → (cites : List ℕ) → Verdict → Type 0

@@ -1,8 +1,7 @@
 -- The verdicts of the rules of a file, one after another, and whether one is new.
-use Rattle.std.proofs.Common.{◌≡◌, ◌↔◌, ℕ, zero, suc, refl, sym, ap, ◌∙◌, subst, inl, inr, arith, Contains, get_or, List, [], ◌∷◌, ◌++◌, length, map, drop, drop-cons, add-one, append_assoc, ◌<◌, ◌≤◌, ◌+◌, ◌==◌, Bool, true, false, Option, Some, None, is_some, not, MatchBool}
+use Rattle.std.proofs.Common.{◌≡◌, ◌↔◌, ℕ, zero, suc, refl, sym, ap, ◌∙◌, subst, inl, inr, arith, Contains, get_or, List, [], ◌∷◌, ◌++◌, length, map, drop, drop-cons, add-one, append_assoc, ◌<◌, ◌≤◌, ◌+◌, Bool, true, false, Option, Some, None, is_some, not, MatchBool}
 use Rattle.std.proofs.lemmas.Bool.{true≢false}
-use Rattle.std.proofs.lemmas.Bool.Decides.{nat_tests}
-use Rattle.std.proofs.lemmas.List.{drop_all, get_or-map, length-map, nil_from_length}
+use Rattle.std.proofs.lemmas.List.{drop_all, get_or-map, length-map}
 use Rattle.evidence_lines.specs.declared.line.Line.{Line}
 use Rattle.evidence_lines.specs.declared.line.Outcome.TheVariants as says
 use Rattle.guard_syntax.specs.code.Seen.{disj_list, see_disj, see_rule}
@@ -136,13 +135,6 @@ module _ (lines : List Line) where
 
   pub loose-none : (ds : List HeldDisj) → ds ≡ [] → AreOfLoose lines (disj_list (map see_disj ds)) []
   loose-none ds none = subst (λ (xs : List HeldDisj). AreOfLoose lines (disj_list (map see_disj xs)) []) (sym none) refl
-
--- emptiness as the code tests it
-pub is-none : {X : Type 0} (xs : List X) (b : Bool) → b ≡ (length xs == 0) → b ≡ true → xs ≡ []
-is-none xs b is holds_is = nil_from_length xs (let test : (length xs == 0) ≡ true = sym is ∙ holds_is in grind (arith, nat_tests, test))
-
-pub is-some : {X : Type 0} (xs : List X) (b : Bool) → b ≡ (length xs == 0) → b ≡ false → xs ≡ [] → ⊥
-is-some {X = X} xs b is fails none = true≢false (sym (is ∙ ap (λ (ys : List X). length ys == 0) none) ∙ fails)
 
 -- the sites that have a verdict
 noted-at : (lines : List Line) (site : ℕ) (o : Option Verdict) → IsJudgedAs lines site o → (is_some o ≡ false) ↔ IsUnjudged lines site

@@ -11,7 +11,7 @@ use Rattle.rule_meaning.specs.StoreModel.{StoreModel}
 use Rattle.evidence_rules.specs.CitedLines.{IsLine, body_site, called_body}
 use Rattle.evidence_rules.specs.Follows.{FollowsBody, FollowsCall, FollowsRefer}
 use Rattle.rule_meaning.specs.Verdicts.{exchanged, referred}
-use Rattle.evidence_checker.proofs.SaidOnce.{same-some, same-verdict}
+use Rattle.evidence_rows.proofs.SaidOnce.{same-some, same-verdict}
 
 module _ (known : StoreModel) (lines : List Line) (frame number : ℕ) (cites : List ℕ) (verdict : Verdict) (one : cites ≡ number ∷ []) where
   module _ (b : sx.Body) (site : ℕ) (site_is : site ≡ body_site b) where

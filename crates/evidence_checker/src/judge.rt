@@ -17,18 +17,19 @@ ghost use Rattle.evidence_lookups.specs.code.Tables.{AreTablesOf};
 ghost use Rattle.evidence_checker.specs.code.Answered.{IsAnswer};
 ghost use Rattle.evidence_checker.specs.code.Judging.{IsLooseWanting, IsRuleWanting, IsWanting};
 
-use crate::calls::keep;
 use crate::line::line_follows;
-use crate::literals::keep_literals;
 use doc_values::Doc;
 use evidence_lines::{Evidence, Version};
 use evidence_lookups::judged::Judged;
 use evidence_lookups::line_context::LineContext;
 use evidence_lookups::tables::FileTables;
+use evidence_rows::calls::keep;
+use evidence_rows::literals::keep_literals;
 use guard_syntax::{Disj, RawFile, Rule, Verdict};
+use pattern_books::PatternBook;
 use rule_names::RuleFile;
 use std::alloc::{AllocError, Global};
-use value_compare::{PatternBook, Store};
+use value_store::Store;
 
 /// What evidence is found to be.
 #[derive(Drop)]

@@ -3,20 +3,11 @@
 #![tactic(auto)]
 
 mod bodies;
-mod calls;
-mod due_rows;
 mod judge;
 mod line;
-mod literals;
-mod one_cite;
 mod parts;
 mod reference_lines;
-mod row_equality;
-mod rows;
-mod step_rows;
 mod stops;
-mod test_lines;
-mod tried_candidates;
 mod verdicts;
 
 pub use judge::{Answer, check};

@@ -9,19 +9,19 @@ ghost use Rattle.evidence_rules.specs.Follows.{Follows, FollowsIn, IsFileLine, h
 ghost use Rattle.rule_meaning.specs.Roots.{root_ref};
 ghost use Rattle.evidence_lookups.specs.code.Grounds.{file_in, known_of, lines_of, version_of};
 ghost use Rattle.evidence_lookups.specs.code.Said.{IsSound, is_known_outcome};
-ghost use Rattle.evidence_checker.specs.code.Makes.{IsMade};
+ghost use Rattle.evidence_rows.specs.code.Makes.{IsMade};
 
-use crate::calls::call_follows;
-use crate::rows::rows_follow;
 use crate::verdicts::verdict_follows;
 use evidence_lines::{Line, LineKind, Outcome};
 use evidence_lookups::frames::{home_for, scope_of};
 use evidence_lookups::line_context::{LineContext, SitedLine};
 use evidence_lookups::values::is_frame_of;
+use evidence_rows::calls::call_follows;
+use evidence_rows::rows::rows_follow;
 use guard_builtins::Made;
 use guard_syntax::{Origin, Ref, Row};
 use std::alloc::{AllocError, Global};
-use value_compare::Store;
+use value_store::Store;
 
 /// What a line makes known where it follows from those before it: the rows that a call answers, and of any other line none.
 pub(crate) fn line_follows(

@@ -12,11 +12,11 @@ ghost use Rattle.evidence_checker.specs.code.FirstCites.{IsSomeGuard, opt_conds_
 
 use crate::bodies::{RowsBody, body_follows, body_follows_on, ends_with};
 use crate::reference_lines::{call_follows, reference_follows};
-use crate::test_lines::{AskedTest, test_follows};
 use evidence_lines::{LineKind, LineList, Version};
 use evidence_lookups::cited_rows::given_by_query;
 use evidence_lookups::line_context::{LineContext, SitedLine};
 use evidence_lookups::lookup::{rows_said, verdict_said};
+use evidence_rows::test_lines::{AskedTest, test_follows};
 use guard_syntax::{Conds, Part, Query, Rule, Verdict};
 use std::alloc::AllocError;
 

@@ -28,11 +28,6 @@ module _ (lines : List Line) (frame : ℕ) where
   IsSomeGuard no_conds cites said left = (said ≡ Pass) × (left ≡ cites)
   IsSomeGuard (with_conds conditions) cites said left = IsGuard conditions cites said left
 
--- one line is cited, and gives the rows
-abbrev pub GivesAlone : ((number : ℕ) → List Row → Type 0) → (cites : List ℕ) → List Row → Type 0
-GivesAlone Gives (c ∷ []) rows = Gives c rows
-GivesAlone Gives cites rows = ⊥
-
 -- a row that was found has the first line; any other has none, and is FAIL
 abbrev pub SaysRow : (Ref → (number : ℕ) → Verdict → Type 0) → Row → (cites : List ℕ) → Verdict → (left : List ℕ) → Type 0
 SaysRow Says (Found v) [] verdict left = ⊥

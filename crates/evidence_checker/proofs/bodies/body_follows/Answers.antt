@@ -1,7 +1,7 @@
 use Rattle.std.proofs.Common.{get_or, refl}
 use denote.Enum.Bare.{sameb}
 use Rattle.guard_syntax.specs.contracts.row.Verdict.{the_type}
-use Rattle.evidence_checker.proofs.Decided.{same-verdicts}
+use Rattle.evidence_rows.proofs.Decided.{same-verdicts}
 use Rattle.evidence_checker.proofs.FramesSaid.{one-cite}
 use Rattle.evidence_checker.proofs.UsesSaid.{body-decided, body-never}
 use Rattle.evidence_checker.proofs.bodies.body_follows.Goals as goal

@@ -15,10 +15,10 @@ use Rattle.evidence_rules.specs.Rejected.{IsRejectedAt}
 use Rattle.evidence_lookups.specs.code.JudgedSites.{AreJudged}
 use Rattle.evidence_lookups.specs.code.Owned.{AreOwners}
 use Rattle.evidence_lookups.specs.code.Said.{AreMadeWithin, AreSound, IsSound}
+use Rattle.evidence_rows.proofs.KeptTrees.{free-behind}
 use Rattle.evidence_checker.specs.code.Answered.{IsAnswer}
 use Rattle.evidence_checker.specs.code.Judging.{IsKnownBehind}
 use Rattle.evidence_checker.proofs.Answering.{rejected-at, starts, store-same}
-use Rattle.evidence_checker.proofs.KeptTrees.{free-behind}
 use Rattle.evidence_checker.proofs.KnownBehind.{behind-none}
 use Rattle.evidence_checker.proofs.Leading.{made-of, none-made}
 use Rattle.evidence_checker.proofs.LinesInTurn.{all-behind, all-judged, counted, fault-here, file-on, judged-on, known-on, leads-here, made-on, shape-here, site-here, sound-here, sound-on}

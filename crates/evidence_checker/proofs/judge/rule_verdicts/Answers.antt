@@ -1,5 +1,6 @@
 use Rattle.std.proofs.Common.{sym, ◌∙◌}
-use Rattle.evidence_checker.proofs.RuleVerdicts.{all-so-far, is-none, is-some, none-more, one-more, said-by, unjudged-by, wanting-here}
+use Rattle.evidence_rows.proofs.Decided.{is-none, is-some}
+use Rattle.evidence_checker.proofs.RuleVerdicts.{all-so-far, none-more, one-more, said-by, unjudged-by, wanting-here}
 use Rattle.evidence_checker.proofs.judge.rule_verdicts.Goals as goal
 
 pub returns-in_default : goal.returns-in_default

@@ -1,6 +1,7 @@
 use Rattle.std.proofs.Common.{sym, [], ◌∷◌}
 use Rattle.std.proofs.lemmas.List.{append-nil}
-use Rattle.evidence_checker.proofs.RuleVerdicts.{is-none, is-some, loose-none, loose-said, loose-unjudged, said-by, unjudged-by}
+use Rattle.evidence_rows.proofs.Decided.{is-none, is-some}
+use Rattle.evidence_checker.proofs.RuleVerdicts.{loose-none, loose-said, loose-unjudged, said-by, unjudged-by}
 use Rattle.evidence_checker.proofs.judge.with_loose.Goals as goal
 
 pub returns-then-is_empty : goal.returns-then-is_empty

@@ -8,7 +8,7 @@ use Rattle.rule_meaning.specs.StoreModel.{StoreModel, is_known}
 use Rattle.evidence_rules.specs.Follows.{FollowsIn, FollowsRows}
 use Rattle.evidence_lookups.specs.code.Grounds.{file_in, known_of, lines_of, version_of}
 use Rattle.evidence_lookups.specs.code.Said.{is_known_outcome}
-use Rattle.evidence_checker.specs.code.Makes.{IsMade}
+use Rattle.evidence_rows.specs.code.Makes.{IsMade}
 use Rattle.evidence_checker.proofs.LinesFollowing.{call-made, rows-made}
 use Rattle.evidence_checker.proofs.line.all_rows_follow.Goals as goal
 

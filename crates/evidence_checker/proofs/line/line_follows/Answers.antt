@@ -4,7 +4,7 @@ use Rattle.rule_meaning.specs.StoreModel.{StoreModel}
 use Rattle.evidence_rules.specs.Follows.{Follows, FollowsIn}
 use Rattle.evidence_lookups.specs.code.Grounds.{known_of, lines_of, version_of}
 use Rattle.evidence_lookups.specs.code.Said.{IsSound, is_known_outcome}
-use Rattle.evidence_checker.specs.code.Makes.{IsMade}
+use Rattle.evidence_rows.specs.code.Makes.{IsMade}
 use Rattle.evidence_checker.proofs.LinesFollowing.{file-made, never-sited, not-home, placed-made}
 use Rattle.evidence_checker.proofs.line.line_follows.Goals as goal
 

@@ -7,7 +7,7 @@ use Rattle.rule_meaning.specs.StoreModel.{Made, StoreModel}
 use Rattle.evidence_rules.specs.Follows.{FollowsIn}
 use Rattle.evidence_lookups.specs.code.Grounds.{known_of, lines_of, version_of}
 use Rattle.evidence_lookups.specs.code.Said.{is_known_outcome}
-use Rattle.evidence_checker.specs.code.Makes.{IsMade}
+use Rattle.evidence_rows.specs.code.Makes.{IsMade}
 use Rattle.evidence_checker.proofs.LinesFollowing.{said-as, value-made, verdict-made}
 use Rattle.evidence_checker.proofs.line.outcome_follows.Goals as goal
 

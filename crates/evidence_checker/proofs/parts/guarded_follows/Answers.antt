@@ -1,6 +1,6 @@
 use Rattle.guard_syntax.specs.declared.row.Verdict.TheVariants.{Pass}
 use Rattle.evidence_rules.specs.Follows.{FollowsBody}
-use Rattle.evidence_checker.proofs.Decided.{decide-guarded, decide-skipped, decide-under-some, never-under-some}
+use Rattle.evidence_checker.proofs.UnderConditions.{decide-guarded, decide-skipped, decide-under-some, never-under-some}
 use Rattle.evidence_checker.proofs.parts.guarded_follows.Goals as goal
 
 pub returns-in_default : goal.returns-in_default

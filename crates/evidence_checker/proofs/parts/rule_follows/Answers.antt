@@ -1,7 +1,7 @@
 use Rattle.std.proofs.Common.{sym}
 use Rattle.guard_syntax.specs.code.Seen.{see_body, see_opt_conds, see_rule}
 use Rattle.evidence_lookups.proofs.PartsSeen.{body-site}
-use Rattle.evidence_checker.proofs.Decided.{none-within}
+use Rattle.evidence_checker.proofs.UnderConditions.{none-within}
 use Rattle.evidence_checker.proofs.FirstSaid.{rule-decided}
 use Rattle.evidence_checker.proofs.parts.rule_follows.Goals as goal
 

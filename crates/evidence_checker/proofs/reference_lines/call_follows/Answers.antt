@@ -5,7 +5,7 @@ use Rattle.guard_syntax.specs.code.Seen.{see_body}
 use Rattle.guard_syntax.specs.declared.syntax.Body.{out-Body}
 use Rattle.evidence_lookups.specs.code.Grounds.{known_of, lines_of}
 use Rattle.evidence_lookups.proofs.PartsSeen.{body-site}
-use Rattle.evidence_checker.proofs.Decided.{same-verdicts}
+use Rattle.evidence_rows.proofs.Decided.{same-verdicts}
 use Rattle.evidence_checker.proofs.FramesSaid.{one-cite}
 use Rattle.evidence_checker.proofs.UsesSaid.{call-decided, call-never, call-many, call-uncited}
 use Rattle.evidence_checker.proofs.reference_lines.call_follows.Goals as goal

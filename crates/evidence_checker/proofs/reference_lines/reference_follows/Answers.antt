@@ -2,7 +2,7 @@ use Rattle.std.proofs.Common.{get_or, refl}
 use denote.Enum.Bare.{sameb}
 use Rattle.guard_syntax.specs.contracts.row.Verdict.{the_type}
 use Rattle.evidence_lookups.specs.code.Grounds.{known_of, lines_of}
-use Rattle.evidence_checker.proofs.Decided.{same-verdicts}
+use Rattle.evidence_rows.proofs.Decided.{same-verdicts}
 use Rattle.evidence_checker.proofs.FramesSaid.{one-cite}
 use Rattle.evidence_checker.proofs.UsesSaid.{refer-decided, refer-never}
 use Rattle.evidence_checker.proofs.reference_lines.reference_follows.Goals as goal

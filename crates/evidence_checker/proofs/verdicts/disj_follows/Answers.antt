@@ -1,7 +1,7 @@
 use Rattle.std.proofs.Common.{refl}
 use denote.Enum.Bare.{sameb}
 use Rattle.guard_syntax.specs.contracts.row.Verdict.{the_type}
-use Rattle.evidence_checker.proofs.Decided.{same-verdicts}
+use Rattle.evidence_rows.proofs.Decided.{same-verdicts}
 use Rattle.evidence_checker.proofs.VerdictsSaid.{disj-said, disj-unsaid}
 use Rattle.evidence_checker.proofs.verdicts.disj_follows.Goals as goal
 

@@ -1,4 +1,4 @@
-use Rattle.evidence_checker.proofs.RuleVerdicts.{is-none, is-some}
+use Rattle.evidence_rows.proofs.Decided.{is-none, is-some}
 use Rattle.evidence_checker.proofs.VerdictsSaid.{loose-none, loose-said}
 use Rattle.evidence_checker.proofs.verdicts.loose_follows.Goals as goal
 

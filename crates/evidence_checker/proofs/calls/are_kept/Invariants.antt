@@ -1,5 +1,0 @@
-use Rattle.evidence_checker.proofs.KeptTrees.{Agrees}
-use Rattle.evidence_checker.proofs.calls.are_kept.Given as goal
-
-abbrev pub invariant-loop-at : goal.invariant-loop-at
-invariant-loop-at l = Agrees l.line l.answer l.rows l.at
