@@ -13,7 +13,7 @@ ghost use Rattle.guard_syntax.specs.declared.row.Verdict.{Verdict};
 ghost use Rattle.query_steps.specs.code.Placed.{see_place};
 ghost use Rattle.rule_meaning.specs.Places.{step_at};
 ghost use Rattle.rule_meaning.specs.StoreModel.{is_known};
-ghost use Rattle.value_compare.specs.code.Stores.{see_store};
+ghost use Rattle.value_store.specs.code.Stores.{see_store};
 ghost use Rattle.rule_names.specs.ReferenceGraph.{part_site};
 ghost use Rattle.rule_names.specs.Pieces.{piece_at};
 ghost use Rattle.evidence_rules.specs.CitedLines.{IsLine, called_body};

@@ -9,7 +9,7 @@ ghost use Rattle.guard_syntax.specs.declared.row.Row.{Row};
 ghost use Rattle.rule_meaning.specs.Seeing.{grown, rows_kept, trees_kept};
 ghost use Rattle.rule_meaning.specs.StoreModel.{made_at};
 ghost use Rattle.rule_meaning.specs.StoreModel as known;
-ghost use Rattle.value_compare.specs.code.Stores.{see_store};
+ghost use Rattle.value_store.specs.code.Stores.{see_store};
 ghost use Rattle.engine_states.specs.code.Adding.{Added};
 ghost use Rattle.engine_states.specs.code.Answers.{AreGiven, IsAnswerOf, SayRowsOf};
 ghost use Rattle.engine_states.specs.code.States.{IsWhole};

@@ -2,8 +2,8 @@
 ghost use Rattle.std.specs.Prelude.{◌≡◌, ◌≤◌, length};
 ghost use Rattle.evidence_lines.specs.declared.version.Version.TheVariants.{Two};
 ghost use Rattle.rule_names.specs.code.Files.{file_of};
-ghost use Rattle.value_compare.specs.code.Books.{IsBookOf};
-ghost use Rattle.value_compare.specs.code.Stores.{see_store};
+ghost use Rattle.value_store.specs.code.Books.{IsBookOf};
+ghost use Rattle.value_store.specs.code.Stores.{see_store};
 ghost use Rattle.engine_states.specs.code.States.{StillFollows};
 
 use crate::place::Place;

@@ -7,7 +7,7 @@ ghost use Rattle.evidence_lines.specs.declared.line.Outcome.TheVariants as says;
 ghost use Rattle.guard_syntax.specs.declared.row.Row.{Row};
 ghost use Rattle.guard_syntax.specs.declared.row.Verdict.{Verdict};
 ghost use Rattle.rule_names.specs.Pieces.{piece_at};
-ghost use Rattle.value_compare.specs.code.Stores.{see_store};
+ghost use Rattle.value_store.specs.code.Stores.{see_store};
 ghost use Rattle.evidence_rules.specs.CitedLines.{IsLine};
 ghost use Rattle.evidence_rules.specs.Follows.{Follows};
 ghost use Rattle.engine_states.specs.code.Adding.{Added, Adds, line_for};

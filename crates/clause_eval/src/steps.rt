@@ -6,7 +6,7 @@ ghost use Rattle.guard_syntax.specs.declared.syntax.Query.{out-Query};
 ghost use Rattle.query_steps.specs.code.Placed.{FiltersAt, candidates_of_place, see_place};
 ghost use Rattle.rule_meaning.specs.Places.{step_at};
 ghost use Rattle.rule_meaning.specs.StoreModel.{is_known, is_known_ref};
-ghost use Rattle.value_compare.specs.code.Stores.{see_store};
+ghost use Rattle.value_store.specs.code.Stores.{see_store};
 ghost use Rattle.engine_states.specs.code.Answers.{AnswersCandidates, AnswersFilter, AnswersStepBehind, GivesBeforeSite, GivesStepBefore, IsFilterWith, LacksStep, StandsUpTo};
 ghost use Rattle.engine_states.specs.code.States.{IsWhole};
 ghost use Rattle.clause_eval.specs.code.Engines.{see_engine};

@@ -39,7 +39,7 @@ use Rattle.rule_meaning.specs.Functions.{Functions, MadeRow, argument, single_te
 use Rattle.rule_meaning.specs.Roots.{literal_ref}
 use Rattle.rule_meaning.specs.Seeing.{grown, rows_kept, trees_kept}
 use Rattle.rule_meaning.specs.StoreModel.{StoreModel, Made, is_known}
-use Rattle.value_compare.specs.code.Books.{IsBookOf, has_text}
+use Rattle.value_store.specs.code.Books.{IsBookOf, has_text}
 use Rattle.query_steps.proofs.KnownAnswers.{answer-known}
 use Rattle.query_steps.proofs.SeenGrowth.{known-before, row-known-before}
 use Rattle.query_steps.proofs.SoughtTexts.{pattern-held}

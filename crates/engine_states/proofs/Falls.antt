@@ -14,7 +14,7 @@ use Rattle.rule_names.specs.Uses.{expr_in}
 use Rattle.rule_names.specs.WellNamed.{WellNamed}
 use Rattle.rule_names.proofs.DepthTables.{depth-of-piece}
 use Rattle.rule_meaning.specs.Places.{step_in, steps_in}
-use Rattle.value_compare.proofs.Beyond.{beyond}
+use Rattle.value_store.proofs.Beyond.{beyond}
 
 below-first : (k m n : ℕ) → k ≤ m → k ≤ larger m n
 below-first k m n h = grind (arith, nat_tests)

@@ -2,8 +2,8 @@
 use Rattle.std.proofs.Common.{◌≡◌, ap, ◌∙◌}
 use Rattle.guard_syntax.specs.code.Seen.{see_file}
 use Rattle.rule_meaning.specs.StoreModel.{StoreModel}
-use Rattle.value_compare.specs.code.Stores.{see_store}
-use Rattle.value_compare.specs.declared.store.Store.{Store}
+use Rattle.value_store.specs.code.Stores.{see_store}
+use Rattle.value_store.specs.declared.store.Store.{Store}
 
 pub same-store : (a b : Store) → a.doc.now ≡ b.doc.now → a.file.now ≡ b.file.now → a.made ≡ b.made → see_store a ≡ see_store b
 same-store a b doc file made =

@@ -20,8 +20,8 @@ use Rattle.rule_meaning.specs.Values.{has_pattern}
 use Rattle.rule_meaning.specs.Functions.{MadeRow, New, Kept}
 use Rattle.rule_meaning.specs.StoreModel.{StoreModel, Made, made_at}
 use Rattle.rule_meaning.specs.Seeing.{grown, rows_kept, trees_kept}
-use Rattle.value_compare.specs.code.Stores.{see_store}
-use Rattle.value_compare.specs.declared.store.Store.{Store}
+use Rattle.value_store.specs.code.Stores.{see_store}
+use Rattle.value_store.specs.declared.store.Store.{Store}
 use Rattle.query_steps.proofs.RowsKept.{rows-more, trees-more, rows-many, absent-behind, absent-later, grown-more, added}
 
 -- ---- what was kept so far of an answer

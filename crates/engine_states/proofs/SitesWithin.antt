@@ -4,7 +4,7 @@ use Rattle.std.proofs.lemmas.Bool.{cases_lt}
 use Rattle.std.proofs.lemmas.Option.{none-some}
 use Rattle.guard_syntax.specs.Syntax.{File}
 use Rattle.rule_names.specs.Pieces.{AreInOrder, Piece, piece_at}
-use Rattle.value_compare.proofs.Beyond.{beyond}
+use Rattle.value_store.proofs.Beyond.{beyond}
 
 pub site-within : (f : File) → AreInOrder f → (site : ℕ) (p : Piece) → piece_at f site ≡ Some p → site < length f.places
 site-within f ordered site p is = elim (cases_lt site (length f.places)) [

@@ -26,10 +26,10 @@ use Rattle.rule_names.specs.code.Within.{StandsIn}
 use Rattle.rule_names.proofs.Arguments.{named-none}
 use Rattle.rule_names.proofs.PiecesStand.{piece-stands}
 use Rattle.rule_names.proofs.Shapes.{function-seen}
-use Rattle.value_compare.specs.code.Books.{IsBookOf, has_text}
+use Rattle.value_store.specs.code.Books.{IsBookOf, has_text}
 use Rattle.rule_meaning.specs.Functions.{Functions, MadeRow, argument, single_text}
 use Rattle.rule_meaning.specs.StoreModel.{StoreModel, Made, is_known}
-use Rattle.value_compare.proofs.OneAnswer.{answers-same}
+use Rattle.pattern_books.proofs.OneAnswer.{answers-same}
 use Rattle.evidence_rules.specs.CitedLines.{GiveArgs}
 use Rattle.evidence_rules.specs.Follows.{FollowsAtExpr, FollowsRows}
 use Rattle.rule_meaning.specs.Seeing.{grown, rows_kept, trees_kept}

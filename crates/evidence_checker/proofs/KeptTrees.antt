@@ -16,8 +16,8 @@ use Rattle.guard_syntax.specs.declared.row.Row.{Row}
 use Rattle.rule_meaning.specs.Functions.{MadeRow, New, Kept}
 use Rattle.rule_meaning.specs.StoreModel.{StoreModel, Made, made_at}
 use Rattle.rule_meaning.specs.Values.{has_pattern}
-use Rattle.value_compare.specs.code.Stores.{see_store}
-use Rattle.value_compare.specs.declared.store.Store.{Store}
+use Rattle.value_store.specs.code.Stores.{see_store}
+use Rattle.value_store.specs.declared.store.Store.{Store}
 use Rattle.rule_meaning.specs.Seeing.{are_called, grown, rows_kept, trees_kept}
 use Rattle.query_steps.proofs.RowsKept.{rows-more, trees-more, rows-many, absent-behind, absent-later, grown-more, added}
 use Rattle.evidence_checker.specs.code.Kept.{row_kept}

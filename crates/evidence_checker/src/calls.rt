@@ -7,7 +7,7 @@ ghost use Rattle.guard_syntax.specs.code.Seen.{expr_list, see_expr};
 ghost use Rattle.guard_syntax.specs.Syntax.{Exprs};
 ghost use Rattle.rule_names.specs.Pieces.{piece_at};
 ghost use Rattle.rule_meaning.specs.StoreModel.{is_known, made_at};
-ghost use Rattle.value_compare.specs.code.Stores.{see_store};
+ghost use Rattle.value_store.specs.code.Stores.{see_store};
 ghost use Rattle.evidence_rules.specs.CitedLines.{GiveArgs};
 ghost use Rattle.evidence_rules.specs.Follows.{FollowsRows};
 ghost use Rattle.rule_meaning.specs.Seeing.{grown, rows_kept, trees_kept};

@@ -7,8 +7,8 @@ ghost use Rattle.guard_syntax.specs.code.Seen.{disj_list, see_disj, see_file, se
 ghost use Rattle.guard_syntax.specs.Syntax.{Disjs};
 ghost use Rattle.guard_syntax.specs.declared.row.Verdict.{Verdict};
 ghost use Rattle.rule_names.specs.code.Files.{file_of};
-ghost use Rattle.value_compare.specs.code.Books.{IsBookOf};
-ghost use Rattle.value_compare.specs.code.Stores.{see_store};
+ghost use Rattle.value_store.specs.code.Books.{IsBookOf};
+ghost use Rattle.value_store.specs.code.Stores.{see_store};
 ghost use Rattle.rule_meaning.specs.Values.{has_pattern};
 ghost use Rattle.evidence_rules.specs.Follows.{AllFollow, nothing_made};
 ghost use Rattle.evidence_rules.specs.RuleLines.{AreOfLoose, AreOfRules};

@@ -3,7 +3,7 @@ ghost use Rattle.std.specs.Prelude.{◌≡◌, ◌<◌, List, Some, true, false,
 ghost use Rattle.evidence_lines.specs.declared.line.Outcome.TheVariants as says;
 ghost use Rattle.rule_meaning.specs.StoreModel as known;
 ghost use Rattle.rule_meaning.specs.StoreModel.{is_known_ref};
-ghost use Rattle.value_compare.specs.code.Stores.{see_store};
+ghost use Rattle.value_store.specs.code.Stores.{see_store};
 ghost use Rattle.evidence_rules.specs.CitedLines.{scope_of};
 ghost use Rattle.evidence_rules.specs.Follows.{Follows, FollowsIn, IsFileLine, home_for};
 ghost use Rattle.rule_meaning.specs.Roots.{root_ref};

@@ -3,7 +3,7 @@ use Rattle.std.proofs.Common.{◌≡◌, ◌<◌, ℕ, length, Some, sym, ◌∙
 use Rattle.std.proofs.lemmas.Bool.{cases_lt}
 use Rattle.guard_syntax.specs.Syntax.{File}
 use Rattle.rule_names.specs.Pieces.{AreInOrder, Piece, piece_at}
-use Rattle.value_compare.proofs.Beyond.{beyond}
+use Rattle.value_store.proofs.Beyond.{beyond}
 
 pub site-within : (f : File) (n : ℕ) (p : Piece) → AreInOrder f → piece_at f n ≡ Some p → n < length f.places
 site-within f n p order at = elim (cases_lt n (length f.places)) [

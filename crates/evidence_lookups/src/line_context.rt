@@ -2,8 +2,8 @@
 ghost use Rattle.std.specs.Prelude.{◌≡◌, length, option_map};
 ghost use Rattle.rule_names.specs.Pieces.{piece_at};
 ghost use Rattle.rule_names.specs.code.Seen.{see_piece};
-ghost use Rattle.value_compare.specs.code.Books.{IsBookOf};
-ghost use Rattle.value_compare.specs.code.Stores.{see_store};
+ghost use Rattle.value_store.specs.code.Books.{IsBookOf};
+ghost use Rattle.value_store.specs.code.Stores.{see_store};
 ghost use Rattle.evidence_lookups.specs.code.JudgedSites.{AreNoted};
 ghost use Rattle.evidence_lookups.specs.code.Owned.{AreOwners};
 ghost use Rattle.evidence_lookups.specs.code.Said.{AreMadeWithin, AreSound};
@@ -11,9 +11,10 @@ ghost use Rattle.evidence_lookups.specs.code.Said.{AreMadeWithin, AreSound};
 use crate::judged::Judged;
 use crate::tables::FileTables;
 use evidence_lines::{LineKind, LineList, Version};
+use pattern_books::PatternBook;
 use rule_names::{Piece, RuleFile};
 use std::alloc::Global;
-use value_compare::{PatternBook, Store};
+use value_store::Store;
 
 /// What a line is judged over, which judging it does not change: the version of the evidence, the rules with the trees that
 /// references point into, the patterns, the tables of the rules, and the lines before, each of which follows, with what their

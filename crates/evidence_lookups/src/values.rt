@@ -4,7 +4,7 @@ ghost use Rattle.guard_syntax.specs.code.Seen.{see_body};
 ghost use Rattle.rule_names.specs.Pieces.{OfBody, piece_at};
 ghost use Rattle.rule_meaning.specs.StoreModel.{is_known_ref};
 ghost use Rattle.rule_meaning.specs.Roots.{root_ref};
-ghost use Rattle.value_compare.specs.code.Stores.{see_store};
+ghost use Rattle.value_store.specs.code.Stores.{see_store};
 ghost use Rattle.evidence_rules.specs.CitedLines.{value_of};
 ghost use Rattle.evidence_rules.specs.Follows.{IsFrameOf};
 ghost use Rattle.evidence_lookups.specs.code.Grounds.{file_in, known_of, lines_of};
@@ -17,7 +17,7 @@ use crate::owners::Owner;
 use evidence_lines::LineList;
 use guard_syntax::{Body, Origin, Ref};
 use rule_names::Piece;
-use value_compare::Store;
+use value_store::Store;
 
 /// Whether a frame in a frame may have a value, by its site: that of a filter's candidate any, and that of a call the value
 /// of the frame around it.

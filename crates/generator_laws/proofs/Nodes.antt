@@ -16,7 +16,7 @@ use Rattle.rule_meaning.specs.Reached.{no_value, numbers}
 use Rattle.rule_meaning.specs.StepMeaning.{candidates_by, candidates_of, entry, inside, value_for}
 use Rattle.rule_meaning.specs.Values.{Value, is_list, value_at, value_of, values_in}
 use Rattle.rule_generator.proofs.KeyPlaces.{key-value, key-within, no-key}
-use Rattle.value_compare.proofs.Nodes.{below, size_in}
+use Rattle.value_store.proofs.Nodes.{below, size_in}
 
 -- a node of the template
 abbrev pub node : ℕ → Location

@@ -6,8 +6,9 @@ use Rattle.guard_syntax.specs.declared.function.Function.TheVariants as function
 use Rattle.rule_names.specs.Uses.{arity}
 use Rattle.rule_meaning.specs.Functions.{AreRows, Functions, MadeRow, argument}
 use Rattle.rule_meaning.specs.StoreModel.{StoreModel}
-use Rattle.guard_builtins.specs.code.Seen.{gives, see_made, see_rows}
-use Rattle.guard_builtins.specs.declared.change.Change.{Change}
+use Rattle.value_functions.specs.code.Gives.{gives}
+use Rattle.value_functions.specs.declared.change.Change.{Change}
+use Rattle.guard_builtins.specs.code.Seen.{see_made, see_rows}
 use Rattle.guard_builtins.specs.declared.made.Made.{Made}
 
 pub argument-is : (args : List (Vec Row Global)) (i : ℕ) (x : Vec Row Global) → i < length args → x ≡ get_or args i x → argument (map see_rows args) i ≡ x.items

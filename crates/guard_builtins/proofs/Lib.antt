@@ -1,8 +1,5 @@
-pub mod CallArguments
-pub mod Joins
-pub mod Plain
-pub mod ReadTexts
-pub mod Replacing
-pub mod Rows
-pub mod Signs
-pub mod Zeros
+mod CallArguments
+mod Joins
+mod Plain
+mod Replacing
+mod Rows

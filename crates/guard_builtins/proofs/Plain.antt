@@ -9,10 +9,11 @@ use Rattle.guard_syntax.specs.declared.row.Row.TheVariants as row
 use Rattle.rule_meaning.specs.Functions.{AreRows, ForText, IsParsed, IsPart, IsReplacement, IsRow, IsRowFor, IsUnescaped, New, Kept, text_of}
 use Rattle.rule_meaning.specs.StoreModel.{StoreModel, stands_for}
 use Rattle.rule_meaning.specs.Values.{Value, has_pattern}
-use Rattle.value_compare.proofs.Patternless.{json-plain}
-use Rattle.guard_builtins.specs.code.Seen.{ByFunction, ByNothing, ByTexts, Changing, changes, gives, is_plain, see_made}
-use Rattle.guard_builtins.specs.declared.change.Change.{Change}
-use Rattle.guard_builtins.specs.declared.change.Change.TheVariants as change
+use Rattle.value_store.proofs.Patternless.{json-plain}
+use Rattle.value_functions.specs.code.Gives.{gives}
+use Rattle.value_functions.specs.declared.change.Change.{Change}
+use Rattle.value_functions.specs.declared.change.Change.TheVariants as change
+use Rattle.guard_builtins.specs.code.Seen.{ByFunction, ByNothing, ByTexts, Changing, changes, is_plain, see_made}
 use Rattle.guard_builtins.specs.declared.made.Made.{Made}
 use Rattle.guard_builtins.specs.declared.made.Made.TheVariants as made
 

@@ -8,7 +8,7 @@ use Rattle.rule_meaning.specs.PatternMatch.{pattern_in}
 use Rattle.rule_meaning.specs.StoreModel.{StoreModel, stands_for}
 use Rattle.rule_meaning.specs.Values.{Value}
 use Rattle.guard_builtins.specs.code.Seen.{ByNothing, ByTexts, both, changes, see_made}
-use Rattle.value_compare.specs.code.Books.{has_text}
+use Rattle.value_store.specs.code.Books.{has_text}
 use Rattle.guard_builtins.specs.declared.made.Made.{Made}
 
 module _ (G H : Value → Forest → Type 0) (same : (v : Value) (o : Option Forest) → IsGiven (G v) o → IsGiven (H v) o) (k : StoreModel) (call : ℕ) where

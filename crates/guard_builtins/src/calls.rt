@@ -2,19 +2,20 @@
 ghost use Rattle.std.specs.Prelude.{◌≡◌, [], true, IfOk, IfSome, IsOk, length, map};
 ghost use Rattle.std.specs.List.{list_all};
 ghost use Rattle.rule_names.specs.Uses.{arity};
-ghost use Rattle.value_compare.specs.code.Books.{has_text};
+ghost use Rattle.value_store.specs.code.Books.{has_text};
 ghost use Rattle.rule_meaning.specs.Functions.{Functions, argument, single_text};
-ghost use Rattle.value_compare.specs.code.Stores.{see_store};
+ghost use Rattle.value_store.specs.code.Stores.{see_store};
 ghost use Rattle.guard_builtins.specs.code.Memory.{is_by_row};
 ghost use Rattle.guard_builtins.specs.code.Seen.{is_plain, see_made, see_rows};
 
-use crate::change::Change;
 use crate::functions::{count, join, rows_for, substring};
 use crate::made::Made;
 use crate::replace::regex_replace;
 use guard_syntax::{Function, Row};
+use pattern_books::PatternBook;
 use std::alloc::{AllocError, Global};
-use value_compare::{PatternBook, Store};
+use value_functions::Change;
+use value_store::Store;
 
 /// What the call of a function at a site answers: a row for each row of its first argument, or its one row. It wants as many
 /// arguments as the function takes, and of `regex_replace` a book that has the pattern. Where it answers a row for each row

@@ -2,18 +2,17 @@
 ghost use Rattle.std.specs.Prelude.{◌≡◌, [], false, true, count_by, IfOk, IfSome, IsOk, Some, map};
 ghost use Rattle.std.specs.List.{list_all};
 ghost use Rattle.rule_meaning.specs.Functions.{AreRows, IsRow, IsSubstring, counted, is_found, joined, joined_row, single_text, single_whole, texts_in};
-ghost use Rattle.value_compare.specs.code.Stores.{see_store};
+ghost use Rattle.value_store.specs.code.Stores.{see_store};
 ghost use Rattle.rule_meaning.specs.Values.{has_pattern};
 ghost use Rattle.guard_builtins.specs.code.Seen.{changes, is_plain, see_made};
 
-use crate::change::{Change, ValueChange};
+use crate::changing::ValueChange;
 use crate::made::{Made, new_or_missing, one_row};
-use crate::trees::{plain_tree, text_tree};
-use crate::values::{single_text, single_whole, texts_in};
 use doc_values::{Doc, Kind};
 use guard_syntax::Row;
 use std::alloc::{AllocError, Global};
-use value_compare::Store;
+use value_functions::{Change, plain_tree, single_text, single_whole, text_tree, texts_in};
+use value_store::Store;
 
 /// `count`: one whole number, how many rows are found.
 pub fn count(alloc: Global, rows: &[Row]) -> Result<Vec<Made>, AllocError>

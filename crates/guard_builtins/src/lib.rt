@@ -1,18 +1,14 @@
 //! The functions of the rule language: from lists of rows to new trees and rows that stay as they are. The table of
-//! functions is `value_compare`'s `specs/Functions`, and each contract is its line. The crate knows neither queries nor
-//! scopes; where a function does not apply to a value, it answers with the site of its call.
+//! functions is `rule_meaning`'s `specs/Functions`, and each contract is its line. What a function gives for one value is
+//! found by `value_functions`. The crate knows neither queries nor scopes; where a function does not apply to a value, it
+//! answers with the site of its call.
 #![tactic(auto)]
 
 pub mod calls;
-mod change;
+mod changing;
 pub mod functions;
 pub mod made;
-mod numbers;
-mod printed;
 pub mod replace;
-mod texts;
-mod trees;
-mod values;
 
 pub use calls::call;
 pub use functions::{count, join, substring};

@@ -1,21 +1,21 @@
 //! Texts with the matches of a pattern replaced.
 ghost use Rattle.std.specs.Prelude.{◌≡◌, [], true, IfOk, IfSome, IsOk, Some, map, option_map};
 ghost use Rattle.std.specs.List.{list_all};
-ghost use Rattle.value_compare.specs.code.Books.{has_text};
+ghost use Rattle.value_store.specs.code.Books.{has_text};
 ghost use Rattle.rule_meaning.specs.Functions.{AreRows, IsGiven, IsReplaced, single_text};
-ghost use Rattle.value_compare.specs.code.Stores.{see_store};
-ghost use Rattle.value_compare.specs.code.Views.{see_view};
+ghost use Rattle.value_store.specs.code.Stores.{see_store};
+ghost use Rattle.value_store.specs.code.Views.{see_view};
 ghost use Rattle.guard_builtins.specs.code.Seen.{ByTexts, both, changes, is_plain, see_made};
 
-use crate::change::{NoChange, ValueChange};
+use crate::changing::{NoChange, ValueChange};
 use crate::functions::rows_for;
 use crate::made::Made;
-use crate::trees::text_tree;
-use crate::values::{single_text, text_of};
 use doc_values::Doc;
 use guard_syntax::Row;
+use pattern_books::{PatternBook, Replacer};
 use std::alloc::{AllocError, Global};
-use value_compare::{PatternBook, Replacer, Store, View};
+use value_functions::{single_text, text_of, text_tree};
+use value_store::{Store, View};
 
 /// `regex_replace`: a text with each match of a pattern replaced by what a template says. Pattern and template have to be
 /// single texts; the book has the pattern. Where there are no rows, nothing is made that replaces.

@@ -10,7 +10,7 @@ use Rattle.doc_values.specs.Tree.{Label, Forest, Nil, Node, joined, size}
 use Rattle.doc_values.specs.Merge.{merged}
 use Rattle.yaml_grammar.proofs.TreeInduction.{IsYamlKind, yaml-induction}
 use Rattle.rule_meaning.specs.Values.{is_pattern, has_pattern}
-use Rattle.value_compare.proofs.Patternless.{json-plain}
+use Rattle.value_store.proofs.Patternless.{json-plain}
 use Rattle.guard_ends.specs.Inputs.{IsTemplate, IsTreeOf}
 use Rattle.guard_ends.specs.declared.format.Format.{Format}
 use Rattle.guard_ends.specs.declared.format.Format.TheVariants as format

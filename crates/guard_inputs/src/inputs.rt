@@ -4,7 +4,7 @@ ghost use Rattle.std.specs.Prelude.{◌≡◌, ◌≤◌, false, length, string_
 ghost use Rattle.std.specs.Option.{ForSome};
 ghost use Rattle.doc_values.specs.Limits.{rules_limit, template_limit};
 ghost use Rattle.rule_names.specs.code.Files.{file_of};
-ghost use Rattle.value_compare.specs.code.Books.{IsBookOf};
+ghost use Rattle.value_store.specs.code.Books.{IsBookOf};
 ghost use Rattle.rule_meaning.specs.Values.{has_pattern};
 
 use doc_values::Doc;

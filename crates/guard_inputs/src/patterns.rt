@@ -2,7 +2,7 @@
 ghost use Rattle.std.specs.Prelude.{◌≤◌, ℕ, List, MatchResult, length};
 ghost use Rattle.doc_values.specs.Limits.{rules_limit};
 ghost use Rattle.rule_names.specs.code.Files.{file_of};
-ghost use Rattle.value_compare.specs.code.Books.{IsBookOf};
+ghost use Rattle.value_store.specs.code.Books.{IsBookOf};
 ghost use Rattle.guard_ends.specs.Order.{AreRead};
 ghost use Rattle.guard_inputs.specs.code.Stops.{AreNotMade};
 

@@ -2,7 +2,7 @@
 ghost use Rattle.std.specs.Prelude.{◌≡◌, ◌<◌, All, false};
 ghost use Rattle.doc_values.specs.Tree.{size};
 ghost use Rattle.rule_names.specs.code.Files.{file_of};
-ghost use Rattle.value_compare.specs.code.Books.{IsBookOf};
+ghost use Rattle.value_store.specs.code.Books.{IsBookOf};
 ghost use Rattle.rule_meaning.specs.Values.{has_pattern};
 
 use crate::inputs::Rules;

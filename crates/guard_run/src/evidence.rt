@@ -4,7 +4,7 @@ ghost use Rattle.evidence_lines.specs.Shapes.{HasShape};
 ghost use Rattle.evidence_lines.specs.declared.version.Version.TheVariants.{Two};
 ghost use Rattle.evidence_text.specs.Text.{IsEvidence};
 ghost use Rattle.rule_names.specs.code.Files.{file_of};
-ghost use Rattle.value_compare.specs.code.Stores.{see_store};
+ghost use Rattle.value_store.specs.code.Stores.{see_store};
 ghost use Rattle.evidence_rules.specs.Follows.{Accepts};
 ghost use Rattle.evidence_rules.specs.Lean.{IsLean};
 ghost use Rattle.rule_calls.specs.code.Ends.{AreOfEngine};

@@ -9,7 +9,7 @@ ghost use Rattle.rule_meaning.specs.Seeing.{world_of};
 ghost use Rattle.rule_meaning.specs.Verdicts.{is_fail};
 ghost use Rattle.evidence_rules.specs.Follows.{Accepts};
 ghost use Rattle.evidence_lookups.specs.code.Grounds.{known_of, lines_of};
-ghost use Rattle.value_compare.specs.code.Stores.{see_store};
+ghost use Rattle.value_store.specs.code.Stores.{see_store};
 ghost use Rattle.report_text.specs.Texts.{Texts};
 ghost use Rattle.report_text.specs.code.SeenTexts.{see_lined, see_texts};
 ghost use Rattle.evidence_report.specs.code.RuleEntries.{IsAccepted};

@@ -12,7 +12,7 @@ use Rattle.doc_values.proofs.Among.{find_in, find_past, other_nat}
 use Rattle.doc_values.proofs.Lookups.{kids-formed}
 use Rattle.report_text.specs.Paths.{Down, ToEntry, step_to, steps_in, path_of}
 use Rattle.report_text.proofs.Downwards.{steps-here, steps-inside, steps-behind}
-use Rattle.value_compare.proofs.Nodes.{child_least, child_most, size_in}
+use Rattle.value_store.proofs.Nodes.{child_least, child_most, size_in}
 use Rattle.guard_testfile.specs.Refusals.{HasShape}
 use Rattle.guard_testfile.specs.Shape.{inside, is_list, is_shaped, place_of}
 use Rattle.guard_testfile.specs.code.Siblings.{from_index}

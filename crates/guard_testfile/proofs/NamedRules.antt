@@ -9,7 +9,7 @@ use Rattle.guard_syntax.specs.declared.row.Verdict.{Verdict}
 use Rattle.report_text.specs.Paths.{ToEntry, step_to}
 use Rattle.report_text.specs.RuleLines.{reported_names}
 use Rattle.rule_names.specs.Duplicates.{is_among}
-use Rattle.value_compare.proofs.Nodes.{child_most, size_in}
+use Rattle.value_store.proofs.Nodes.{child_most, size_in}
 use Rattle.guard_testfile.specs.Cases.{Expected, TestCase, case_at, cases_in, cases_of, contents_of, expected_by, expected_in}
 use Rattle.guard_testfile.specs.Refusals.{IsTestsFile, names_rule}
 use Rattle.guard_testfile.specs.Shape.{inside, place_of, verdict_named}

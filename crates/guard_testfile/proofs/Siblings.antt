@@ -7,7 +7,7 @@ use Rattle.doc_values.specs.Places.{find, first_label, first_kids, kids_at, labe
 use Rattle.doc_values.specs.Tree.{Forest, Nil, Node, size, count, has_key, key_is}
 use Rattle.doc_values.proofs.Among.{find_past}
 use Rattle.doc_values.proofs.Lookups.{key_place-has, key_place-lacks}
-use Rattle.value_compare.proofs.Nodes.{below, child_least, child_most}
+use Rattle.value_store.proofs.Nodes.{below, child_least, child_most}
 use Rattle.guard_testfile.specs.Cases.{contents_of}
 use Rattle.guard_testfile.specs.code.Siblings.{from_index}
 

@@ -1,7 +1,7 @@
 //! The lines of entries: places at the borders of lines and past a text, those of parameters, and sinks with each room.
 ghost use Rattle.std.specs.Prelude.{◌≡◌, true, false};
 ghost use Rattle.rule_meaning.specs.StoreModel.{is_known_ref};
-ghost use Rattle.value_compare.specs.code.Stores.{see_store};
+ghost use Rattle.value_store.specs.code.Stores.{see_store};
 ghost use Rattle.report_text.specs.code.SeenEntries.{is_made};
 
 use crate::worlds::{file_of, json_template_of, template_of};

@@ -30,7 +30,7 @@ use Rattle.rule_meaning.specs.PatternMatch.{pattern_in}
 use Rattle.rule_meaning.specs.Functions.{AreRows, ForText, Functions, Gives, IsDecimal, IsDecimalBy, IsGiven, IsParsed, IsPart, IsReplacement, IsRow, IsRowFor, IsSigned, IsUnescaped, IsWholeBy, argument, behind_plus, decimal_tree, printed_by, replaced_with, single_text, single_whole, text_of, text_tree, truth_by, truth_tree, whole_tree}
 use Rattle.rule_meaning.specs.StoreModel.{StoreModel, stands_for}
 use Rattle.rule_meaning.specs.Values.{Value}
-use Rattle.value_compare.proofs.OneAnswer.{IsSigned-unique}
+use Rattle.pattern_books.proofs.OneAnswer.{IsSigned-unique}
 
 -- ---- texts
 

@@ -6,7 +6,7 @@ use Rattle.guard_syntax.specs.Syntax.{File}
 use Rattle.rule_names.specs.Depths.{larger, capped, depth_at, depth_limit, depth_piece, deepened}
 use Rattle.rule_names.specs.Pieces.{AreInOrder, piece_at}
 use Rattle.rule_names.proofs.Settled.{read-mapped}
-use Rattle.value_compare.proofs.Beyond.{beyond}
+use Rattle.value_store.proofs.Beyond.{beyond}
 
 -- ---- numbers
 

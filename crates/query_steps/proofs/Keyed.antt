@@ -9,7 +9,7 @@ use Rattle.doc_values.proofs.Among.{find_in, find_past}
 use Rattle.guard_syntax.specs.declared.row.Ref.{Ref}
 use Rattle.rule_meaning.specs.StoreModel.{StoreModel, is_known_ref, tree_of}
 use Rattle.rule_meaning.specs.Values.{Value, value_at}
-use Rattle.value_compare.proofs.Nodes.{below, size_in}
+use Rattle.value_store.proofs.Nodes.{below, size_in}
 use Rattle.rule_meaning.specs.Reached.{key_of, node_beside, numbers, value_for}
 
 -- each of the values side by side has a key

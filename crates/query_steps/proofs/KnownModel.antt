@@ -9,7 +9,7 @@ use Rattle.doc_values.specs.Places.{child_place, kids_at, label_at}
 use Rattle.guard_syntax.specs.declared.row.Ref.{Ref}
 use Rattle.rule_meaning.specs.StoreModel.{StoreModel, is_known_ref, tree_of, value_in, value_or_key}
 use Rattle.rule_meaning.specs.Values.{Value, value_at, value_of_key}
-use Rattle.value_compare.proofs.Nodes.{size_in}
+use Rattle.value_store.proofs.Nodes.{size_in}
 use Rattle.rule_meaning.specs.Reached.{inside, no_value, node_beside, numbers, value_for}
 
 -- ---- the numbers of values side by side

@@ -15,7 +15,7 @@ use Rattle.guard_syntax.specs.declared.row.Row.{Row}
 use Rattle.guard_syntax.specs.declared.row.Row.TheVariants.{Found, Missing, Unmade}
 use Rattle.rule_meaning.specs.StoreModel.{StoreModel, is_known, is_known_ref, meant, stands_for}
 use Rattle.rule_meaning.specs.Values.{Value, is_list}
-use Rattle.value_compare.proofs.Nodes.{child_least, child_most}
+use Rattle.value_store.proofs.Nodes.{child_least, child_most}
 use Rattle.rule_meaning.specs.Keys.{captured_row, keys_by, passes}
 use Rattle.rule_meaning.specs.Reached.{entry, inside, item, key_of, node_beside, value_for}
 use Rattle.rule_meaning.specs.Steps.{each_inside, every_by, found_or_missing, found_step, items_by, key_in, on_found, splice_row}

@@ -15,7 +15,7 @@ use Rattle.rule_meaning.specs.FunctionMeaning.{AreRows, Functions, Gives, IsAnsw
 use Rattle.rule_meaning.specs.Meaning.{answered}
 use Rattle.rule_meaning.specs.Locations.{answered_row, AnswerRow, Answers, Kept, LocatedOrigin, Template, Literal, Made, LocatedRow, Found, Missing, Unmade, World, meant, stands_for, tree_of}
 use Rattle.query_steps.proofs.SeenFunctions.{functions-seen}
-use Rattle.value_compare.proofs.GivenTrees.{IsOne, IsTold, boolean-one, boolean-told, decoded-one, decoded-told, float-one, float-told, int-one, int-told, json-one, json-told, lower-one, lower-told, printed-one, printed-told, replaced-one, replaced-told, substring-one, substring-told, upper-one, upper-told}
+use Rattle.pattern_books.proofs.GivenTrees.{IsOne, IsTold, boolean-one, boolean-told, decoded-one, decoded-told, float-one, float-told, int-one, int-told, json-one, json-told, lower-one, lower-told, printed-one, printed-told, replaced-one, replaced-told, substring-one, substring-told, upper-one, upper-told}
 
 -- ---- there is an answer
 

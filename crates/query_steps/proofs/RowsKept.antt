@@ -9,8 +9,8 @@ use Rattle.guard_syntax.specs.declared.row.Row.{Row}
 use Rattle.guard_syntax.specs.declared.row.Row.TheVariants as row
 use Rattle.rule_meaning.specs.Functions.{MadeRow, New, Kept}
 use Rattle.rule_meaning.specs.StoreModel.{StoreModel, Made, made_at}
-use Rattle.value_compare.specs.code.Stores.{see_store}
-use Rattle.value_compare.specs.declared.store.Store.{Store}
+use Rattle.value_store.specs.code.Stores.{see_store}
+use Rattle.value_store.specs.declared.store.Store.{Store}
 use Rattle.rule_meaning.specs.Seeing.{grown, rows_kept, trees_kept}
 
 pub rows-more : (line at end : ℕ) (xs ys : List MadeRow) → end ≡ at + length xs → rows_kept line at (xs ++ ys) ≡ rows_kept line at xs ++ rows_kept line end ys

@@ -23,12 +23,12 @@ use Rattle.rule_names.specs.Pieces.{AreInOrder, OfExpr, Piece, piece_at, pieces_
 use Rattle.rule_names.specs.Uses.{expr_in, function_named, is_text_kind, is_text_tree}
 use Rattle.rule_names.specs.code.Within.{IsAmong, StandsIn}
 use Rattle.rule_names.proofs.Among.{IsAmong-behind, IsAmong-first, IsAmong-inner, IsAmong-last}
-use Rattle.value_compare.specs.code.Books.{has_text, IsBookOf}
+use Rattle.value_store.specs.code.Books.{has_text, IsBookOf}
 use Rattle.rule_meaning.specs.Functions.{single_text, text_of}
 use Rattle.rule_meaning.specs.StoreModel.{StoreModel, tree_of_piece, value_in, value_or_key}
 use Rattle.rule_meaning.specs.Values.{is_text}
 use Rattle.rule_meaning.specs.Patterns.{Written, is_site, is_sought, patterns_at, patterns_in, patterns_of_piece, sought_at, sought_by_piece, sought_text}
-use Rattle.value_compare.proofs.Beyond.{beyond}
+use Rattle.value_store.proofs.Beyond.{beyond}
 use Rattle.rule_meaning.specs.Roots.{literal_ref}
 use Rattle.rule_names.proofs.FittingCalls.{pattern-written}
 use Rattle.rule_names.proofs.PiecesFound.{piece-found}

@@ -1,6 +1,6 @@
 //! What steps are read over.
-ghost use Rattle.value_compare.specs.code.Books.{IsBookOf};
-ghost use Rattle.value_compare.specs.code.Stores.{see_store};
+ghost use Rattle.value_store.specs.code.Books.{IsBookOf};
+ghost use Rattle.value_store.specs.code.Stores.{see_store};
 
 use std::alloc::Global;
 use value_compare::{PatternBook, Store};

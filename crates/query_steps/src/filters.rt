@@ -3,7 +3,7 @@ ghost use Rattle.std.specs.Prelude.{◌≡◌, ◌≤◌, ◌++◌, ◌∷◌, [
 ghost use Rattle.std.specs.List.{list_all};
 ghost use Rattle.guard_syntax.specs.declared.row.Ref.{Ref};
 ghost use Rattle.rule_meaning.specs.StoreModel.{is_known, is_known_ref};
-ghost use Rattle.value_compare.specs.code.Stores.{see_store};
+ghost use Rattle.value_store.specs.code.Stores.{see_store};
 ghost use Rattle.rule_meaning.specs.Filters.{candidates_by, candidates_in, candidates_of, filtered, kept};
 ghost use Rattle.rule_meaning.specs.Verdicts.{is_pass};
 

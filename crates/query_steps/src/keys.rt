@@ -1,11 +1,11 @@
 //! Tests of rows, the keys that a key filter tests and those that a capture binds.
 ghost use Rattle.std.specs.Prelude.{◌≡◌, ◌++◌, [], List, Option, None, true, false, map, IfOk, IsOk, OnOk};
 ghost use Rattle.std.specs.List.{flat_map, list_all};
-ghost use Rattle.value_compare.specs.code.Books.{IsBookOf};
+ghost use Rattle.value_store.specs.code.Books.{IsBookOf};
 ghost use Rattle.rule_meaning.specs.StoreModel.{is_known, meant};
 ghost use Rattle.rule_meaning.specs.Pairs.{is_order};
 ghost use Rattle.rule_meaning.specs.RowTests.{found_of, is_binary, row_test_of};
-ghost use Rattle.value_compare.specs.code.Stores.{see_store};
+ghost use Rattle.value_store.specs.code.Stores.{see_store};
 ghost use Rattle.rule_meaning.specs.Values.{Value};
 ghost use Rattle.rule_meaning.specs.Keys.{captured_row, passes};
 

@@ -4,7 +4,7 @@ ghost use Rattle.std.specs.List.{list_all};
 ghost use Rattle.doc_values.specs.Places.{kids_at};
 ghost use Rattle.doc_values.specs.Tree.{Nil, holds_values, is_map};
 ghost use Rattle.rule_meaning.specs.StoreModel.{is_known_ref, stands_for};
-ghost use Rattle.value_compare.specs.code.Stores.{see_store};
+ghost use Rattle.value_store.specs.code.Stores.{see_store};
 ghost use Rattle.query_steps.specs.code.Nodes.{IsNodeOf};
 ghost use Rattle.rule_meaning.specs.Reached.{entry, inside, item, key_of, node_beside, numbers, value_for};
 ghost use Rattle.rule_meaning.specs.Steps.{key_in};

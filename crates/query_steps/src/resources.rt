@@ -2,7 +2,7 @@
 ghost use Rattle.std.specs.Prelude.{◌≡◌, false, true, map, IfOk, IsOk};
 ghost use Rattle.std.specs.List.{filter, list_all};
 ghost use Rattle.rule_meaning.specs.StoreModel.{is_known, is_known_ref};
-ghost use Rattle.value_compare.specs.code.Stores.{see_store};
+ghost use Rattle.value_store.specs.code.Stores.{see_store};
 ghost use Rattle.rule_meaning.specs.Kinds.{has_type, is_name, rows_of_type};
 ghost use Rattle.rule_meaning.specs.Reached.{value_for};
 ghost use Rattle.query_steps.specs.code.Memory.{has_resources};

@@ -2,9 +2,9 @@
 ghost use Rattle.std.specs.Prelude.{◌≡◌, ◌<◌, true, false, length, Some, [], IfOk, IsOk};
 ghost use Rattle.std.specs.List.{list_all};
 ghost use Rattle.rule_names.specs.code.Files.{file_of};
-ghost use Rattle.value_compare.specs.code.Books.{IsBookOf};
+ghost use Rattle.value_store.specs.code.Books.{IsBookOf};
 ghost use Rattle.rule_meaning.specs.StoreModel.{is_known, is_known_ref};
-ghost use Rattle.value_compare.specs.code.Stores.{see_store};
+ghost use Rattle.value_store.specs.code.Stores.{see_store};
 ghost use Rattle.query_steps.specs.code.Memory.{has_resources};
 ghost use Rattle.query_steps.specs.code.Placed.{see_place};
 ghost use Rattle.rule_meaning.specs.Places.{IsFilterAt, IsStartAt, IsStepAt, IsTypeAt, candidates_at, rows_at_step, rows_at_type, step_at, type_at};

@@ -3,9 +3,9 @@ ghost use Rattle.std.specs.Prelude.{◌≡◌, ◌++◌, ◌∷◌, [], true, if
 ghost use Rattle.std.specs.List.{flat_map, list_all};
 ghost use Rattle.guard_syntax.specs.code.Seen.{see_step};
 ghost use Rattle.guard_syntax.specs.declared.row.Row.TheVariants.{Found};
-ghost use Rattle.value_compare.specs.code.Books.{IsBookOf};
+ghost use Rattle.value_store.specs.code.Books.{IsBookOf};
 ghost use Rattle.rule_meaning.specs.StoreModel.{is_known, is_known_ref, meant};
-ghost use Rattle.value_compare.specs.code.Stores.{see_store};
+ghost use Rattle.value_store.specs.code.Stores.{see_store};
 ghost use Rattle.rule_meaning.specs.Keys.{keys_by, passes};
 ghost use Rattle.rule_meaning.specs.Reached.{entry, inside, key_of, value_for};
 ghost use Rattle.rule_meaning.specs.Steps.{each_inside, every_by, found_or_missing, found_step, items_by, key_in, on_found, splice_row};

@@ -8,7 +8,7 @@ ghost use Rattle.guard_syntax.specs.code.Seen.{see_part};
 ghost use Rattle.rule_names.specs.code.Files.{file_of};
 ghost use Rattle.rule_names.specs.Pieces.{piece_at};
 ghost use Rattle.rule_meaning.specs.StoreModel.{is_known_ref};
-ghost use Rattle.value_compare.specs.code.Stores.{see_store};
+ghost use Rattle.value_store.specs.code.Stores.{see_store};
 ghost use Rattle.report_text.specs.EntryLines.{cause_text, data_path, entry_line, node_text, note_of, note_of_part, shown_text, site_text, word_text};
 ghost use Rattle.report_text.specs.Texts.{place_of_node};
 ghost use Rattle.report_text.specs.code.SeenEntries.{IsShowable, is_made, see_entry, see_shown, see_word, tree_for};
@@ -29,7 +29,7 @@ use guard_io::Sink;
 use guard_syntax::{Origin, Part, Ref};
 use rule_names::{Piece, RuleFile};
 use std::alloc::{AllocError, Global};
-use value_compare::{Store, View};
+use value_store::{Store, View};
 
 /// Writes the line of an entry: two spaces, the path and the place of what is shown, the word, the place of the part in
 /// the rules, and the part's message where it has one. Places are `line:column` from 1, the column in bytes, and behind

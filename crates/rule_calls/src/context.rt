@@ -1,8 +1,8 @@
 //! What goes over the lines of an evaluation: its evidence and its store, with the tables that look-ups of lines go by.
 ghost use Rattle.std.specs.Prelude.{◌≡◌, IfOk};
 ghost use Rattle.evidence_lines.specs.declared.version.Version.TheVariants.{Two};
-ghost use Rattle.value_compare.specs.code.Books.{IsBookOf};
-ghost use Rattle.value_compare.specs.code.Stores.{see_store};
+ghost use Rattle.value_store.specs.code.Books.{IsBookOf};
+ghost use Rattle.value_store.specs.code.Stores.{see_store};
 ghost use Rattle.evidence_lookups.specs.code.Grounds.{known_of, lines_of};
 ghost use Rattle.evidence_lookups.specs.code.JudgedSites.{AreJudged};
 ghost use Rattle.evidence_lookups.specs.code.Tables.{AreTablesOf};

@@ -6,7 +6,7 @@ use Rattle.doc_values.specs.Tree.{Forest, Label, Nil, Node, key_is, size}
 use Rattle.doc_values.proofs.Among.{find_past}
 use Rattle.rule_meaning.specs.Pairs.{entry_of}
 use Rattle.rule_meaning.specs.Values.{value_at, value_of}
-use Rattle.value_compare.proofs.Nodes.{below, size_in}
+use Rattle.value_store.proofs.Nodes.{below, size_in}
 
 -- a key is looked up where it has a number
 pub record IsKeyAt (g : Forest) (key : List ℕ) (at place : ℕ) : Type 0 where

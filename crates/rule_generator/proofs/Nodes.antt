@@ -13,7 +13,7 @@ use Rattle.rule_generator.specs.code.Seen.{see}
 use Rattle.rule_meaning.specs.Pairs.{entry_of}
 use Rattle.rule_meaning.specs.Values.{Value, value_at, values_in}
 use Rattle.rule_generator.proofs.KeyPlaces.{key-value, no-key}
-use Rattle.value_compare.proofs.Nodes.{below, child_least, child_most, item_at}
+use Rattle.value_store.proofs.Nodes.{below, child_least, child_most, item_at}
 
 -- ---- values by their indexes
 

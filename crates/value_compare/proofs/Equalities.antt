@@ -9,7 +9,8 @@ use Rattle.doc_values.specs.declared.kind.Kind.{Kind}
 use Rattle.doc_values.specs.declared.kind.Kind.TheVariants as kind
 use Rattle.rule_meaning.specs.declared.answer.PairAnswer.{PairAnswer}
 use Rattle.value_compare.specs.code.Entries.{has_equal, may_find_entry}
-use Rattle.value_compare.specs.code.BookCovers.{holds_if, holds_in, covers, compares_pattern, may_find_items, may_find_entries}
+use Rattle.value_store.specs.code.BookCovers.{holds_if, holds_in, covers}
+use Rattle.value_compare.specs.code.Meetings.{compares_pattern, may_find_items, may_find_entries}
 use Rattle.rule_meaning.specs.Pairs.{equal, equal_by, same_items, same_entries, same_maps, entry_of, is_yes}
 use Rattle.rule_meaning.specs.Values.{Value, value_of, value_of_key, is_pattern}
 use Rattle.value_compare.proofs.Forests.{from_index, first_value, index_step, index_end}

@@ -7,7 +7,7 @@ use Rattle.doc_values.specs.declared.kind.Kind.{Kind}
 use Rattle.doc_values.specs.declared.kind.Kind.TheVariants as kind
 use Rattle.guard_syntax.specs.declared.syntax.Op.TheVariants as op
 use Rattle.rule_meaning.specs.declared.answer.PairAnswer.TheVariants.{Yes, No, Apart}
-use Rattle.value_compare.specs.code.BookCovers.{compares_pattern}
+use Rattle.value_compare.specs.code.Meetings.{compares_pattern}
 use Rattle.rule_meaning.specs.Pairs.{pair_of}
 use Rattle.rule_meaning.specs.Values.{Value, value_of_key}
 

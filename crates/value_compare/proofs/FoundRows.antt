@@ -9,13 +9,13 @@ use Rattle.std.proofs.lemmas.List.Folds.{list_all-append}
 use Rattle.guard_syntax.specs.declared.row.Row.{Row}
 use Rattle.guard_syntax.specs.declared.syntax.Op.{Op}
 use Rattle.guard_syntax.specs.declared.syntax.Op.TheVariants as op
-use Rattle.value_compare.specs.code.BookCovers.{covers}
+use Rattle.value_store.specs.code.BookCovers.{covers}
 use Rattle.rule_meaning.specs.StoreModel.{StoreModel, meant}
 use Rattle.rule_meaning.specs.Pairs.{is_order, is_yes, ordered}
 use Rattle.rule_meaning.specs.RowTests.{binary, found_of, is_some_right}
 use Rattle.rule_meaning.specs.Values.{Value}
-use Rattle.value_compare.specs.code.Views.{see_view}
-use Rattle.value_compare.specs.declared.view.View.{View}
+use Rattle.value_store.specs.code.Views.{see_view}
+use Rattle.value_store.specs.declared.view.View.{View}
 
 found_of-append : (xs ys : List (Option Value)) → found_of (xs ++ ys) ≡ found_of xs ++ found_of ys
 found_of-append [] ys = refl

@@ -3,12 +3,12 @@ use Rattle.std.proofs.Common.{◌≡◌, ℕ, ◌+◌, ◌<◌, true, List, leng
 use Rattle.std.specs.List.{list_all}
 use Rattle.doc_values.specs.Tree.{Forest, size, count}
 use Rattle.doc_values.specs.Places.{kids_at, child_place}
-use Rattle.value_compare.specs.code.BookCovers.{holds_in, covers}
+use Rattle.value_store.specs.code.BookCovers.{holds_in, covers}
 use Rattle.rule_meaning.specs.Values.{value_at, values_in}
-use Rattle.value_compare.specs.code.Views.{see_view}
-use Rattle.value_compare.specs.declared.view.View.{View}
-use Rattle.value_compare.proofs.HeldPatterns.{held-item}
-use Rattle.value_compare.proofs.Nodes.{item_at, length-values_in}
+use Rattle.value_store.specs.code.Views.{see_view}
+use Rattle.value_store.specs.declared.view.View.{View}
+use Rattle.value_store.proofs.HeldPatterns.{held-item}
+use Rattle.value_store.proofs.Nodes.{item_at, length-values_in}
 
 -- right values by another name, over a book by another name
 pub rights-held : (old book : List (List ℕ)) (views rights : List View) → book ≡ old → rights ≡ views → list_all (λ r. covers old (see_view r)) views ≡ true → list_all (λ r. covers book (see_view r)) rights ≡ true

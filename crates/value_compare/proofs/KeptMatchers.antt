@@ -6,7 +6,7 @@ use Rattle.std.proofs.lemmas.Bool.Decides.{nat_tests}
 use Rattle.indexmap.specs.IndexMap.{IndexMap, get, Updates, IsUnchanged}
 use Rattle.regex.specs.Strings.{matcher_pattern}
 use Rattle.regex.specs.declared.string.matcher.Matcher.{Matcher}
-use Rattle.value_compare.specs.code.Matching.{IsMatcherAt, IsMatcherOf}
+use Rattle.pattern_books.specs.code.Matching.{IsMatcherAt, IsMatcherOf}
 
 -- each matcher that is kept finds the pattern at its place in the book
 abbrev pub AreKept : {S : Type 0} → List (List ℕ) → IndexMap ℕ Matcher S → Type 0

@@ -2,18 +2,18 @@
 ghost use Rattle.std.specs.Prelude.{◌≡◌, ℕ, Bool, true, false, List, IfOk, IsOk};
 ghost use Rattle.doc_values.specs.Places.{label_at, kids_at};
 ghost use Rattle.doc_values.specs.Tree.{Nil, has_text, holds_values};
-ghost use Rattle.value_compare.specs.code.BookCovers.{holds_if, holds_in, covers, compares_pattern, may_find_entries, may_find_items};
+ghost use Rattle.value_store.specs.code.BookCovers.{holds_if, holds_in, covers};
+ghost use Rattle.value_compare.specs.code.Meetings.{compares_pattern, may_find_entries, may_find_items};
 ghost use Rattle.rule_meaning.specs.Pairs.{equal, equal_by, is_yes, same_items, same_maps, told};
 ghost use Rattle.value_compare.specs.code.Entries.{has_equal, may_find_entry};
 ghost use Rattle.rule_meaning.specs.Values.{is_pattern, value_at, value_of_key};
-ghost use Rattle.value_compare.specs.code.Views.{see_view};
+ghost use Rattle.value_store.specs.code.Views.{see_view};
 
 use crate::matchers::Matchers;
-use crate::range;
-use crate::view::View;
 use doc_values::{Cursor, Decimal, Kind};
 use rule_meaning::PairAnswer;
 use std::alloc::AllocError;
+use value_store::{View, range};
 
 /// Null and a value.
 fn pair_null(right: Kind) -> PairAnswer

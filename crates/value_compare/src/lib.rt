@@ -2,32 +2,16 @@
 //! The tables speak of located trees; the crate knows neither queries nor verdicts.
 #![tactic(auto)]
 
-pub mod book;
 mod equal;
-mod literals;
-pub mod made;
 pub mod make_book;
 pub mod maker;
 pub mod matchers;
 mod members;
-mod order;
-pub mod pattern;
-mod range;
-pub mod replacer;
 pub mod row_tests;
-mod sought;
-pub mod store;
-mod unary;
-pub mod view;
-mod written;
 
-pub use book::PatternBook;
-pub use made::MadeTrees;
 pub use make_book::{BookRefusal, pattern_book};
 pub use maker::{PatternFault, PatternMaker, RegexMaker, ScriptMaker};
 pub use matchers::Matchers;
-pub use pattern::Pattern;
-pub use replacer::Replacer;
+pub use pattern_books::{Pattern, PatternBook, Replacer};
 pub use row_tests::row_test;
-pub use store::Store;
-pub use view::View;
+pub use value_store::{MadeTrees, Store, View};

@@ -2,15 +2,16 @@
 ghost use Rattle.std.specs.Prelude.{◌≡◌, ◌∷◌, ◌≤◌, ℕ, List, [], All, map, IfOk, OnOk, IsErrOf, IsNone, IsSome};
 ghost use Rattle.guard_io.specs.Outside.{FaultCounted};
 ghost use Rattle.guard_syntax.specs.code.Seen.{see_file};
-ghost use Rattle.value_compare.specs.code.Books.{IsBookOf};
+ghost use Rattle.value_store.specs.code.Books.{IsBookOf};
 ghost use Rattle.rule_meaning.specs.NextPattern.{IsNextPattern};
 ghost use Rattle.rule_meaning.specs.PatternMatch.{pattern_in};
-ghost use Rattle.value_compare.specs.code.Making.{AreRead, IsReadBook, Gains, IsNextOf, refusal_of, see_written};
+ghost use Rattle.value_compare.specs.code.Making.{AreRead, IsReadBook, Gains, IsNextOf, refusal_of};
+ghost use Rattle.pattern_books.specs.code.Writing.{see_written};
 ghost use Rattle.rule_meaning.specs.Patterns.{patterns_of};
 
-use crate::book::PatternBook;
 use crate::maker::{PatternFault, PatternMaker};
-use crate::written::{WrittenText, written_texts};
+use pattern_books::PatternBook;
+use pattern_books::written::{WrittenText, written_texts};
 use rule_names::RuleFile;
 use std::alloc::Global;
 

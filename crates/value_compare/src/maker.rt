@@ -4,7 +4,7 @@ ghost use Rattle.std.specs.List.{list_any};
 ghost use Rattle.guard_io.specs.Outside.{FaultCounted, one_more};
 ghost use Rattle.rule_meaning.specs.PatternMatch.{counted, pattern_in};
 
-use crate::pattern::Pattern;
+use pattern_books::Pattern;
 use regex::{Error, Regex};
 use std::alloc::Global;
 

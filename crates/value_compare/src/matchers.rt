@@ -1,12 +1,12 @@
 //! What finds patterns in texts while rows are tested.
 ghost use Rattle.std.specs.Prelude.{◌≡◌, ℕ, true, IfOk, Some, nat_eq};
 ghost use Rattle.indexmap.specs.IndexMap.{get};
-ghost use Rattle.value_compare.specs.code.Books.{has_text};
-ghost use Rattle.value_compare.specs.code.Matching.{IsMatcherAt};
+ghost use Rattle.value_store.specs.code.Books.{has_text};
+ghost use Rattle.pattern_books.specs.code.Matching.{IsMatcherAt};
 ghost use Rattle.rule_meaning.specs.PatternMatch.{finds};
 
-use crate::book::PatternBook;
 use indexmap::IndexMap;
+use pattern_books::PatternBook;
 use regex::Matcher;
 use std::alloc::{AllocError, Global};
 

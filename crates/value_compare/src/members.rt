@@ -3,19 +3,19 @@ ghost use Rattle.std.specs.Prelude.{◌≡◌, true, false, map, IfOk, MatchOpti
 ghost use Rattle.std.specs.List.{list_all, list_any};
 ghost use Rattle.doc_values.specs.Places.{kids_at};
 ghost use Rattle.guard_syntax.specs.declared.syntax.Op.TheVariants.{Within};
-ghost use Rattle.value_compare.specs.code.BookCovers.{holds_in, covers};
+ghost use Rattle.value_store.specs.code.BookCovers.{holds_in, covers};
 ghost use Rattle.rule_meaning.specs.Pairs.{equal, is_yes, told};
 ghost use Rattle.rule_meaning.specs.RowTests.{binary, is_some_right, member};
 ghost use Rattle.rule_meaning.specs.Values.{is_list, value_at, values_in};
 ghost use Rattle.value_compare.specs.code.Settled.{answer_to, ends, items_settled, settled};
-ghost use Rattle.value_compare.specs.code.Views.{see_view};
+ghost use Rattle.value_store.specs.code.Views.{see_view};
 
 use crate::equal::pair_equal;
 use crate::matchers::Matchers;
-use crate::view::View;
 use doc_values::{Cursor, Kind};
 use rule_meaning::PairAnswer;
 use std::alloc::AllocError;
+use value_store::View;
 
 /// What may be asked of a value and a right one: whether it is equal, or a member.
 #[derive(Clone, Copy)]

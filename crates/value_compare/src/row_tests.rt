@@ -3,22 +3,21 @@ ghost use Rattle.std.specs.Prelude.{◌≡◌, ℕ, List, [], IfSome, None, Some
 ghost use Rattle.std.specs.List.{list_all};
 ghost use Rattle.std.specs.Option.{option_map_or};
 ghost use Rattle.guard_syntax.specs.code.Seen.{see_file};
-ghost use Rattle.value_compare.specs.code.Books.{IsBookOf};
-ghost use Rattle.value_compare.specs.code.BookCovers.{covers};
+ghost use Rattle.value_store.specs.code.Books.{IsBookOf};
+ghost use Rattle.value_store.specs.code.BookCovers.{covers};
 ghost use Rattle.rule_meaning.specs.StoreModel.{meant, is_known};
 ghost use Rattle.rule_meaning.specs.Pairs.{is_order, is_yes, ordered};
 ghost use Rattle.rule_meaning.specs.RowTests.{binary, found_of, is_binary, is_some_right, row_test_of};
-ghost use Rattle.value_compare.specs.code.Stores.{see_store};
-ghost use Rattle.value_compare.specs.code.Views.{see_view};
+ghost use Rattle.value_store.specs.code.Stores.{see_store};
+ghost use Rattle.value_store.specs.code.Views.{see_view};
 
 use crate::matchers::Matchers;
 use crate::members::{Asked, settles, within};
-use crate::order::pair_order;
-use crate::store::Store;
-use crate::unary::unary_test;
-use crate::view::View;
 use guard_syntax::{Op, Row};
 use std::alloc::{AllocError, Global};
+use value_store::order::pair_order;
+use value_store::unary::unary_test;
+use value_store::{Store, View};
 
 /// Whether a left row passes a test against the right rows; a unary test has none. The store knows each row, and the book
 /// of the matchers was made of the store's rule file. Memory is taken only to compare a value by `==` or `IN` with right

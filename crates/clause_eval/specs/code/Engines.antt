@@ -1,6 +1,6 @@
 -- Engines as the code has them.
 use Rattle.std.specs.Prelude.{ℕ, Option}
-use Rattle.value_compare.specs.code.Stores.{see_store}
+use Rattle.value_store.specs.code.Stores.{see_store}
 use Rattle.clause_eval.specs.code.Beside.{beside_in}
 use Rattle.engine_parts.specs.code.FoundLines.{found_in}
 use Rattle.engine_parts.specs.code.FrameLines.{line_in}

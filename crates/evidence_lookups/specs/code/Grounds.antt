@@ -4,7 +4,7 @@ use Rattle.evidence_lines.specs.declared.line.Line.{Line}
 use Rattle.evidence_lines.specs.declared.version.Version.{Version}
 use Rattle.guard_syntax.specs.Syntax.{File}
 use Rattle.rule_meaning.specs.StoreModel.{StoreModel}
-use Rattle.value_compare.specs.code.Stores.{see_store}
+use Rattle.value_store.specs.code.Stores.{see_store}
 use Rattle.evidence_lookups.specs.declared.line_context.LineContext.{LineContext}
 
 -- the version of the evidence

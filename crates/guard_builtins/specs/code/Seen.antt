@@ -3,10 +3,10 @@ use Rattle.std.specs.Prelude.{ℕ, Bool, true, not, List, Option, Some, None, Ve
 use Rattle.std.specs.declared.alloc.Global.{Global}
 use Rattle.doc_values.specs.Tree.{Forest}
 use Rattle.guard_syntax.specs.declared.row.Row.{Row}
-use Rattle.rule_meaning.specs.Functions.{MadeRow, New, Kept, IsJson, IsLower, IsReplaced, IsUpper, IsSubstring, IsDecoded, IsInt, IsFloat, IsBoolean, IsPrinted}
+use Rattle.rule_meaning.specs.Functions.{MadeRow, New, Kept, IsReplaced}
 use Rattle.rule_meaning.specs.Values.{Value, has_pattern}
-use Rattle.guard_builtins.specs.declared.change.Change.{Change}
-use Rattle.guard_builtins.specs.declared.change.Change.TheVariants as change
+use Rattle.value_functions.specs.code.Gives.{gives}
+use Rattle.value_functions.specs.declared.change.Change.{Change}
 use Rattle.guard_builtins.specs.declared.made.Made.{Made}
 use Rattle.guard_builtins.specs.declared.made.Made.TheVariants as made
 
@@ -18,18 +18,6 @@ see_made (made.Kept row) = Kept row
 abbrev pub is_plain : Made → Bool
 is_plain (made.Tree tree) = not (has_pattern tree)
 is_plain (made.Kept row) = true
-
--- what a function gives for one value
-abbrev pub gives : Change → Value → Forest → Type 0
-gives change.JsonParse v tree = IsJson v tree
-gives change.ToLower v tree = IsLower v tree
-gives change.ToUpper v tree = IsUpper v tree
-gives (change.Substring from to) v tree = IsSubstring from to v tree
-gives change.UrlDecode v tree = IsDecoded v tree
-gives change.ParseInt v tree = IsInt v tree
-gives change.ParseFloat v tree = IsFloat v tree
-gives change.ParseBoolean v tree = IsBoolean v tree
-gives change.ParseString v tree = IsPrinted v tree
 
 -- the rows of an argument
 abbrev pub see_rows : Vec Row Global → List Row

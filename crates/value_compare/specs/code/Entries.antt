@@ -2,7 +2,7 @@
 use Rattle.std.specs.Prelude.{ℕ, Bool, false, List, Option}
 use Rattle.std.specs.Option.{option_map_or}
 use Rattle.doc_values.specs.Tree.{Forest}
-use Rattle.value_compare.specs.code.BookCovers.{compares_pattern}
+use Rattle.value_compare.specs.code.Meetings.{compares_pattern}
 use Rattle.rule_meaning.specs.Pairs.{entry_of, equal, is_yes}
 use Rattle.rule_meaning.specs.Values.{Value}
 

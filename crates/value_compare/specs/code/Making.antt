@@ -2,24 +2,13 @@
 use Rattle.std.specs.Prelude.{ℕ, ◌≡◌, true, ◌||◌, List, ◌∷◌, ◌++◌, All, IsSome}
 use Rattle.std.specs.List.{list_any}
 use Rattle.std.specs.Str.{bytes_eq}
-use Rattle.value_compare.specs.code.Books.{has_text}
+use Rattle.value_store.specs.code.Books.{has_text}
 use Rattle.value_compare.specs.declared.make_book.BookRefusal.{BookRefusal}
 use Rattle.value_compare.specs.declared.make_book.BookRefusal.TheVariants.{BadPattern, PatternRefused, NoMemory}
 use Rattle.value_compare.specs.declared.maker.PatternFault.{PatternFault}
 use Rattle.value_compare.specs.declared.maker.PatternFault.TheVariants.{Syntax, TooLarge, Memory}
-use Rattle.value_compare.specs.declared.written.WrittenText.{WrittenText}
 use Rattle.rule_meaning.specs.PatternMatch.{pattern_in}
-use Rattle.doc_values.specs.Tree.{Label}
-use Rattle.rule_meaning.specs.Patterns.{Written, written_if}
-use Rattle.rule_meaning.specs.Values.{is_pattern}
-
--- a text that is read as a pattern, as the code has it
-abbrev pub see_written : WrittenText → Written
-see_written w = record { text = w.text.now; at = w.at }
-
--- the pattern that a value is
-abbrev pub written : Label → List Written
-written l = written_if (is_pattern l.kind) l
+use Rattle.rule_meaning.specs.Patterns.{Written}
 
 -- each of these patterns is read
 abbrev pub AreRead : List Written → Type 0

@@ -4,7 +4,7 @@ use Rattle.guard_syntax.specs.declared.row.Row.TheVariants as row
 use Rattle.rule_meaning.specs.Keys.{passes}
 use Rattle.rule_meaning.specs.Roots.{root_ref}
 use Rattle.rule_meaning.specs.StoreModel.{is_known}
-use Rattle.value_compare.specs.code.Stores.{see_store}
+use Rattle.value_store.specs.code.Stores.{see_store}
 use Rattle.engine_parts.proofs.Conjoined.{passes-at, any-further, any-found}
 use Rattle.engine_parts.proofs.judging.one_passes.Goals as goal
 

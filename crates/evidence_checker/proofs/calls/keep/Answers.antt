@@ -1,8 +1,8 @@
 use Rattle.std.proofs.Common.{◌+◌, ◌++◌, ◌∙◌, [], ◌∷◌, length, refl, sym, subst}
 use Rattle.std.proofs.lemmas.Iterator.Adapters.{YieldsList-from_vec}
 use Rattle.std.proofs.lemmas.Iterator.Consumers.{YieldsList-turn}
-use Rattle.value_compare.specs.code.Stores.{see_store}
-use Rattle.value_compare.specs.declared.store.Store.{Store}
+use Rattle.value_store.specs.code.Stores.{see_store}
+use Rattle.value_store.specs.declared.store.Store.{Store}
 use Rattle.evidence_checker.proofs.KeptTrees.{KeptSoFar, kept-row, kept-tree, place-free, tree-plain}
 use Rattle.evidence_checker.proofs.Leading.{grown-nothing}
 use Rattle.evidence_checker.proofs.calls.keep.Goals as goal

@@ -1,7 +1,7 @@
 use Rattle.std.proofs.Common.{IfOk, subst, sym}
 use Rattle.rule_names.specs.declared.file.RuleFile.{RuleFile}
 use Rattle.rule_meaning.specs.StoreModel.{StoreModel}
-use Rattle.value_compare.specs.code.Books.{IsBookOf}
+use Rattle.value_store.specs.code.Books.{IsBookOf}
 use Rattle.evidence_lookups.specs.code.Tables.{AreTablesOf}
 use Rattle.evidence_checker.specs.code.Answered.{IsAnswer}
 use Rattle.evidence_checker.proofs.Answering.{store-starts}

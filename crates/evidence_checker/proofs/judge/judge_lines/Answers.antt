@@ -8,8 +8,8 @@ use Rattle.evidence_lines.specs.declared.version.Version.{Version}
 use Rattle.rule_names.specs.code.Files.{file_of}
 use Rattle.rule_names.specs.declared.file.RuleFile.{RuleFile}
 use Rattle.rule_meaning.specs.StoreModel.{Made, StoreModel}
-use Rattle.value_compare.specs.code.Books.{IsBookOf}
-use Rattle.value_compare.specs.code.Stores.{see_store}
+use Rattle.value_store.specs.code.Books.{IsBookOf}
+use Rattle.value_store.specs.code.Stores.{see_store}
 use Rattle.evidence_rules.specs.Follows.{AllFollow, Follows, nothing_made}
 use Rattle.evidence_rules.specs.Rejected.{IsRejectedAt}
 use Rattle.evidence_lookups.specs.code.JudgedSites.{AreJudged}

@@ -1,5 +1,5 @@
 use Rattle.std.proofs.Common.{◌≡◌, length, take}
-use Rattle.value_compare.specs.code.Stores.{see_store}
+use Rattle.value_store.specs.code.Stores.{see_store}
 use Rattle.evidence_lookups.specs.code.JudgedSites.{AreJudged}
 use Rattle.evidence_lookups.specs.code.Said.{AreMadeWithin, AreSound}
 use Rattle.evidence_checker.specs.code.Judging.{IsKnownBehind}

@@ -1,4 +1,4 @@
-use Rattle.value_compare.specs.code.Stores.{see_store}
+use Rattle.value_store.specs.code.Stores.{see_store}
 use Rattle.rule_names.proofs.Arguments.{tree-root}
 use Rattle.evidence_checker.proofs.SoundLines.{root-known}
 use Rattle.evidence_checker.proofs.line.is_file_line.Goals as goal

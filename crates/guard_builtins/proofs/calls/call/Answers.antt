@@ -2,9 +2,9 @@ use Rattle.std.proofs.lemmas.Grind.{common_steps}
 use Rattle.std.proofs.Common.{◌≡◌, ◌∙◌, ap, sym, subst, length, map, IfOk, arith}
 use Rattle.rule_names.specs.Uses.{arity}
 use Rattle.rule_meaning.specs.Functions.{AreRows, Functions, IsReplaced, IsSubstring, single_text, single_whole}
-use Rattle.value_compare.specs.code.Stores.{see_store}
+use Rattle.value_store.specs.code.Stores.{see_store}
 use Rattle.guard_builtins.specs.code.Seen.{see_made, see_rows}
-use Rattle.guard_builtins.specs.declared.change.Change.TheVariants as change
+use Rattle.value_functions.specs.declared.change.Change.TheVariants as change
 use Rattle.guard_syntax.specs.declared.function.Function.TheVariants as function
 use Rattle.guard_builtins.proofs.CallArguments.{Answers, answers-so, called-by-change, called-with-three, first-argument}
 use Rattle.guard_builtins.proofs.calls.call.Goals as goal

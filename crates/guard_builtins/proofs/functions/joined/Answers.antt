@@ -1,6 +1,6 @@
 use Rattle.std.proofs.Common.{◌≡◌, ap, option_map, sym, subst, ◌∙◌, IfOk}
 use Rattle.rule_meaning.specs.Functions.{joined, single_text, texts_in}
-use Rattle.value_compare.specs.code.Stores.{see_store}
+use Rattle.value_store.specs.code.Stores.{see_store}
 use Rattle.guard_builtins.proofs.Joins.{joined-nothing}
 use Rattle.guard_builtins.proofs.functions.joined.Goals as goal
 

@@ -2,7 +2,7 @@ use Rattle.std.proofs.Common.{ap, map, option_map, refl, string_bytes, sym, â—Œâ
 use Rattle.std.specs.List.{join_by}
 use Rattle.rule_meaning.specs.Functions.{texts_in}
 use Rattle.rule_meaning.specs.Values.{has_pattern}
-use Rattle.value_compare.specs.code.Stores.{see_store}
+use Rattle.value_store.specs.code.Stores.{see_store}
 use Rattle.guard_builtins.proofs.Joins.{joined-is}
 use Rattle.guard_builtins.proofs.functions.joined_by.Goals as goal
 

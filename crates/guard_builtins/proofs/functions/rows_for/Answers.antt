@@ -1,6 +1,6 @@
 use Rattle.std.proofs.lemmas.Grind.{common_steps}
 use Rattle.std.proofs.Common.{take, ◌∙◌, arith}
-use Rattle.value_compare.specs.code.Stores.{see_store}
+use Rattle.value_store.specs.code.Stores.{see_store}
 use Rattle.guard_builtins.proofs.Plain.{rows-plain}
 use Rattle.guard_builtins.proofs.Rows.{rows-more}
 use Rattle.guard_builtins.proofs.functions.rows_for.Goals as goal

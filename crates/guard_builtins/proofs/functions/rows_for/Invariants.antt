@@ -1,6 +1,6 @@
 use Rattle.std.proofs.Common.{◌≡◌, map, take}
 use Rattle.rule_meaning.specs.Functions.{AreRows}
-use Rattle.value_compare.specs.code.Stores.{see_store}
+use Rattle.value_store.specs.code.Stores.{see_store}
 use Rattle.guard_builtins.specs.code.Seen.{changes, see_made}
 use Rattle.guard_builtins.proofs.functions.rows_for.Given as goal
 

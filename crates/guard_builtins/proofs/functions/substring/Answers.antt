@@ -1,6 +1,6 @@
 use Rattle.std.proofs.Common.{IfOk, map, subst}
 use Rattle.rule_meaning.specs.Functions.{AreRows, IsSubstring, single_whole}
-use Rattle.value_compare.specs.code.Stores.{see_store}
+use Rattle.value_store.specs.code.Stores.{see_store}
 use Rattle.guard_builtins.specs.code.Seen.{see_made}
 use Rattle.guard_builtins.proofs.functions.substring.Goals as goal
 

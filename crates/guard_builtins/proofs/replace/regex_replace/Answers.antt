@@ -1,7 +1,7 @@
 use Rattle.std.proofs.Common.{arith, refl}
 use Rattle.std.proofs.lemmas.Grind.{common_steps}
 use Rattle.rule_meaning.specs.Functions.{single_text}
-use Rattle.value_compare.specs.code.Stores.{see_store}
+use Rattle.value_store.specs.code.Stores.{see_store}
 use Rattle.guard_builtins.proofs.Replacing.{nothing-replaced, pattern-there, texts-replaced}
 use Rattle.guard_builtins.proofs.replace.regex_replace.Goals as goal
 

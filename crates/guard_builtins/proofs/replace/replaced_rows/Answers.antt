@@ -1,5 +1,5 @@
 use Rattle.std.proofs.Common.{Some, refl}
-use Rattle.value_compare.specs.code.Stores.{see_store}
+use Rattle.value_store.specs.code.Stores.{see_store}
 use Rattle.guard_builtins.proofs.Replacing.{texts-replaced}
 use Rattle.guard_builtins.proofs.replace.replaced_rows.Goals as goal
 

@@ -3,8 +3,8 @@ use Rattle.guard_syntax.specs.Syntax.{File}
 use Rattle.rule_meaning.specs.FunctionMeaning.{IsAnswering}
 use Rattle.rule_meaning.specs.Locations.{World}
 use Rattle.rule_names.specs.code.Files.{file_of}
-use Rattle.value_compare.specs.code.Books.{IsBookOf}
-use Rattle.value_compare.specs.code.Stores.{see_store}
+use Rattle.value_store.specs.code.Books.{IsBookOf}
+use Rattle.value_store.specs.code.Stores.{see_store}
 use Rattle.evidence_lookups.specs.code.Grounds.{known_of, lines_of}
 use Rattle.rule_calls.specs.code.Ends.{state_with}
 use Rattle.evidence_report.proofs.TakenTexts.{none-at-exit}

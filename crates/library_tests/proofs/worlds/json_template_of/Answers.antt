@@ -1,4 +1,4 @@
-use Rattle.value_compare.proofs.Patternless.{json-plain}
+use Rattle.value_store.proofs.Patternless.{json-plain}
 use Rattle.library_tests.proofs.worlds.json_template_of.Goals as goal
 
 pub returns-in-Ok : goal.returns-in-Ok

@@ -1,5 +1,5 @@
 use Rattle.meaning_laws.proofs.GivenAnswers.{answered-is}
-use Rattle.value_compare.proofs.OneAnswer.{answers-same}
+use Rattle.pattern_books.proofs.OneAnswer.{answers-same}
 use Rattle.meaning_laws.proofs.function_laws.one_answer.Goals as goal
 
 pub returns-clause-some : goal.returns-clause-some

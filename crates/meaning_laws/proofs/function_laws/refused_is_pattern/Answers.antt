@@ -1,4 +1,4 @@
-use Rattle.value_compare.proofs.FindsLemmas.{counted-pattern}
+use Rattle.value_compare.proofs.Counted.{counted-pattern}
 use Rattle.meaning_laws.proofs.function_laws.refused_is_pattern.Goals as goal
 
 pub returns : goal.returns

@@ -6,7 +6,7 @@ use Rattle.std.specs.List.{list_all}
 use Rattle.guard_syntax.specs.declared.row.Ref.{Ref}
 use Rattle.rule_meaning.specs.Filters.{candidates_of}
 use Rattle.rule_meaning.specs.StoreModel.{is_known_ref}
-use Rattle.value_compare.specs.code.Stores.{see_store}
+use Rattle.value_store.specs.code.Stores.{see_store}
 use Rattle.query_steps.proofs.filters.filter_candidates.Goals as goal
 use Rattle.query_steps.proofs.filters.filter_candidates.Goals.{in-Found+in_ok-push_candidates, in_default}
 

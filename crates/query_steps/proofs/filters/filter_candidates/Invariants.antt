@@ -1,7 +1,7 @@
 use Rattle.std.proofs.Common.{◌≡◌, true, take}
 use Rattle.std.specs.List.{list_all}
 use Rattle.rule_meaning.specs.StoreModel.{is_known_ref}
-use Rattle.value_compare.specs.code.Stores.{see_store}
+use Rattle.value_store.specs.code.Stores.{see_store}
 use Rattle.rule_meaning.specs.Filters.{candidates_in}
 use Rattle.query_steps.proofs.filters.filter_candidates.Given as goal
 

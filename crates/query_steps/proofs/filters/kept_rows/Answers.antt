@@ -3,7 +3,7 @@ use Rattle.std.proofs.Common.{◌≡◌, ◌++◌, ◌+◌, List, length, drop, 
 use Rattle.std.proofs.lemmas.List.Sums.{AllPass-from_list_all}
 use Rattle.guard_syntax.specs.declared.row.Row.{Row}
 use Rattle.guard_syntax.specs.declared.row.Verdict.{Verdict}
-use Rattle.value_compare.specs.code.Stores.{see_store}
+use Rattle.value_store.specs.code.Stores.{see_store}
 use Rattle.rule_meaning.specs.Filters.{candidates_of, filtered}
 use Rattle.rule_meaning.specs.StoreModel.{is_known}
 use Rattle.query_steps.proofs.FilterWalks.{kept_pairs, kept-pairs, kept-found, enough-found, left-found, known-pairs, kept-other, left-other, known-row, other-row}

@@ -4,7 +4,7 @@ use Rattle.doc_values.specs.declared.kind.Kind.{Kind}
 use Rattle.guard_syntax.specs.declared.row.Ref.{Ref}
 use Rattle.rule_meaning.specs.Filters.{candidates_by, candidates_of, kept}
 use Rattle.rule_meaning.specs.Reached.{inside}
-use Rattle.value_compare.specs.code.Stores.{see_store}
+use Rattle.value_store.specs.code.Stores.{see_store}
 use Rattle.query_steps.proofs.filters.push_kept.Goals as goal
 
 pub push_judged-requires : goal.push_judged-requires

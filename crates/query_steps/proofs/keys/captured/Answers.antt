@@ -3,7 +3,7 @@ use Rattle.std.proofs.Common.{ap, sym, ◌∙◌, true≢false, arith}
 use Rattle.std.specs.List.{flat_map, list_all}
 use Rattle.std.proofs.lemmas.List.{take_all}
 use Rattle.rule_meaning.specs.StoreModel.{is_known}
-use Rattle.value_compare.specs.code.Stores.{see_store}
+use Rattle.value_store.specs.code.Stores.{see_store}
 use Rattle.rule_meaning.specs.Keys.{captured_row}
 use Rattle.query_steps.proofs.EmptyLists.{item-empty}
 use Rattle.query_steps.proofs.KnownRows.{keys-captured}

@@ -1,7 +1,7 @@
 use Rattle.std.proofs.Common.{◌≡◌, ◌∙◌, Bool, ap, Vec, Global}
 use Rattle.std.proofs.lemmas.Result.{IfOk-weaker}
 use Rattle.guard_syntax.specs.declared.row.Ref.{Ref}
-use Rattle.value_compare.specs.code.Stores.{see_store}
+use Rattle.value_store.specs.code.Stores.{see_store}
 use Rattle.rule_meaning.specs.Filters.{candidates_in}
 use Rattle.query_steps.specs.code.Placed.{candidates_of_place, see_place}
 use Rattle.query_steps.proofs.StepPlaces.{candidates-at, item-at}

@@ -5,7 +5,7 @@ use Rattle.std.specs.declared.alloc.AllocError.{AllocError}
 use Rattle.guard_syntax.specs.code.Seen.{see_step}
 use Rattle.guard_syntax.specs.declared.row.Row.{Row}
 use Rattle.guard_syntax.specs.declared.row.Row.TheVariants.{Found}
-use Rattle.value_compare.specs.code.Stores.{see_store}
+use Rattle.value_store.specs.code.Stores.{see_store}
 use Rattle.rule_meaning.specs.Filters.{candidates_in, filtered}
 use Rattle.rule_meaning.specs.Steps.{found_step, on_found}
 use Rattle.query_steps.specs.code.Placed.{rows_of_place, see_place}

@@ -1,6 +1,6 @@
 use Rattle.std.proofs.Common.{◌∙◌}
 use Rattle.rule_meaning.specs.StoreModel.{stands_for}
-use Rattle.value_compare.specs.code.Stores.{see_store}
+use Rattle.value_store.specs.code.Stores.{see_store}
 use Rattle.query_steps.proofs.NamedTexts.{no-name, one-name}
 use Rattle.query_steps.proofs.resources.is_text.Goals as goal
 

@@ -4,7 +4,7 @@ use Rattle.std.specs.List.{filter, list_all}
 use Rattle.guard_syntax.specs.declared.row.Row.{Row}
 use Rattle.guard_syntax.specs.declared.row.Row.TheVariants.{Found}
 use Rattle.rule_meaning.specs.StoreModel.{is_known, is_known_ref}
-use Rattle.value_compare.specs.code.Stores.{see_store}
+use Rattle.value_store.specs.code.Stores.{see_store}
 use Rattle.rule_meaning.specs.Kinds.{has_type}
 use Rattle.query_steps.proofs.FilterWalks.{known-found}
 use Rattle.query_steps.proofs.resources.type_rows.Goals as goal

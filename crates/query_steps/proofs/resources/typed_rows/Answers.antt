@@ -1,7 +1,7 @@
 use Rattle.std.proofs.lemmas.Grind.{common_steps}
 use Rattle.std.proofs.Common.{[], arith}
 use Rattle.rule_meaning.specs.Kinds.{has_type}
-use Rattle.value_compare.specs.code.Stores.{see_store}
+use Rattle.value_store.specs.code.Stores.{see_store}
 use Rattle.query_steps.proofs.LoopRows.{kept-more}
 use Rattle.query_steps.proofs.resources.typed_rows.Goals as goal
 

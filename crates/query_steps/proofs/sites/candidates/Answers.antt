@@ -2,7 +2,7 @@ use Rattle.std.proofs.Common.{◌≡◌, ap, sym, ◌∙◌, subst, Option, Vec,
 use Rattle.std.proofs.lemmas.Result.{IfOk-weaker}
 use Rattle.guard_syntax.specs.Syntax.{File}
 use Rattle.guard_syntax.specs.declared.row.Ref.{Ref}
-use Rattle.value_compare.specs.code.Stores.{see_store}
+use Rattle.value_store.specs.code.Stores.{see_store}
 use Rattle.rule_meaning.specs.Places.{Placed, candidates_at, step_at}
 use Rattle.query_steps.specs.code.Placed.{FiltersAt, candidates_of_place, see_place}
 use Rattle.query_steps.proofs.sites.candidates.Goals as goal

@@ -2,8 +2,8 @@ use Rattle.std.proofs.Common.{◌≡◌, ap, sym, ◌∙◌, subst, length, Opti
 use Rattle.std.proofs.lemmas.Result.{IfOk-weaker}
 use Rattle.guard_syntax.specs.Syntax.{File}
 use Rattle.guard_syntax.specs.declared.row.Row.{Row}
-use Rattle.value_compare.specs.code.Books.{IsBookOf}
-use Rattle.value_compare.specs.code.Stores.{see_store}
+use Rattle.value_store.specs.code.Books.{IsBookOf}
+use Rattle.value_store.specs.code.Stores.{see_store}
 use Rattle.rule_meaning.specs.Places.{Placed, rows_at_step, step_at}
 use Rattle.query_steps.specs.code.Placed.{StartsAt, candidates_of_place, rows_of_place, see_place}
 use Rattle.query_steps.proofs.sites.step.Goals as goal

@@ -1,7 +1,7 @@
 use Rattle.std.proofs.Common.{◌≡◌, ◌++◌, map, filter, take}
 use Rattle.guard_syntax.specs.declared.row.Ref.{Ref}
 use Rattle.guard_syntax.specs.declared.row.Row.TheVariants.{Found}
-use Rattle.value_compare.specs.code.Stores.{see_store}
+use Rattle.value_store.specs.code.Stores.{see_store}
 use Rattle.rule_meaning.specs.Keys.{passes}
 use Rattle.rule_meaning.specs.Reached.{key_of}
 use Rattle.query_steps.proofs.steps.push_passing.Given as goal

@@ -2,7 +2,7 @@ use Rattle.std.proofs.lemmas.Grind.{common_steps}
 use Rattle.std.proofs.Common.{[], ◌∷◌, ◌++◌, Option, ap, ◌∙◌, arith}
 use Rattle.guard_syntax.specs.declared.row.Ref.{Ref}
 use Rattle.rule_meaning.specs.Steps.{found_or_missing, splice_row}
-use Rattle.value_compare.specs.code.Stores.{see_store}
+use Rattle.value_store.specs.code.Stores.{see_store}
 use Rattle.query_steps.proofs.LoopRows.{mapped-more}
 use Rattle.query_steps.proofs.steps.push_spliced.Goals as goal
 

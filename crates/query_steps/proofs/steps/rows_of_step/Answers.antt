@@ -4,7 +4,7 @@ use Rattle.std.specs.List.{flat_map, list_all}
 use Rattle.std.proofs.lemmas.List.{take_all}
 use Rattle.guard_syntax.specs.code.Seen.{see_step}
 use Rattle.rule_meaning.specs.StoreModel.{is_known}
-use Rattle.value_compare.specs.code.Stores.{see_store}
+use Rattle.value_store.specs.code.Stores.{see_store}
 use Rattle.rule_meaning.specs.Steps.{found_step, on_found}
 use Rattle.query_steps.proofs.KnownRows.{rows-known}
 use Rattle.query_steps.proofs.LoopRows.{given-more}

@@ -1,7 +1,7 @@
 use Rattle.std.proofs.Common.{◌≡◌, take}
 use Rattle.std.specs.List.{flat_map}
 use Rattle.guard_syntax.specs.code.Seen.{see_step}
-use Rattle.value_compare.specs.code.Stores.{see_store}
+use Rattle.value_store.specs.code.Stores.{see_store}
 use Rattle.rule_meaning.specs.Steps.{found_step, on_found}
 use Rattle.query_steps.proofs.steps.rows_of_step.Given as goal
 

@@ -1,7 +1,7 @@
 use Rattle.std.proofs.Common.{◌≡◌, ◌++◌, ℕ, List, OnOk, codes, subst}
 use Rattle.doc_values.specs.Tree.{Forest}
 use Rattle.rule_names.specs.code.Files.{file_of}
-use Rattle.value_compare.specs.code.Stores.{see_store}
+use Rattle.value_store.specs.code.Stores.{see_store}
 use Rattle.report_text.specs.EntryLines.{site_text}
 use Rattle.report_text.specs.Paths.{path_of, path_text}
 use Rattle.report_text.specs.code.SeenTexts.{see_lined}

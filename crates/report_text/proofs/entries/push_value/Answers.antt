@@ -1,6 +1,6 @@
 use Rattle.std.proofs.Common.{◌≡◌, ◌++◌, ℕ, List, OnOk, codes, subst}
 use Rattle.doc_values.specs.Tree.{Forest}
-use Rattle.value_compare.specs.code.Stores.{see_store}
+use Rattle.value_store.specs.code.Stores.{see_store}
 use Rattle.report_text.specs.EntryLines.{data_path}
 use Rattle.report_text.specs.Paths.{path_of, path_text}
 use Rattle.report_text.specs.Spelling.{place_text}

@@ -1,5 +1,5 @@
 use Rattle.std.proofs.Common.{ap}
-use Rattle.value_compare.specs.code.Stores.{see_store}
+use Rattle.value_store.specs.code.Stores.{see_store}
 use Rattle.report_text.specs.EntryLines.{entry_line}
 use Rattle.report_text.specs.Texts.{Texts}
 use Rattle.report_text.specs.code.SeenEntries.{see_entry}

@@ -7,7 +7,7 @@ use Rattle.evidence_rules.proofs.LinesBehind.{next-line}
 use Rattle.evidence_rules.specs.Follows.{nothing_made}
 use Rattle.evidence_lookups.specs.code.JudgedSites.{AreJudged, is_rule}
 use Rattle.evidence_lookups.proofs.OtherKinds.{unruled-line}
-use Rattle.value_compare.specs.code.Stores.{see_store}
+use Rattle.value_store.specs.code.Stores.{see_store}
 use Rattle.engine_states.proofs.Shaped.{shaped}
 use Rattle.rule_calls.specs.code.Ends.{state_with}
 use Rattle.rule_calls.proofs.LinesPlaced.{line-sited}

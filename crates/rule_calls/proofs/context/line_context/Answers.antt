@@ -1,6 +1,6 @@
 use Rattle.std.proofs.Common.{◌≡◌, refl, sym, subst, List, length}
 use Rattle.evidence_lines.specs.declared.line.Line.{Line}
-use Rattle.value_compare.specs.code.Stores.{see_store}
+use Rattle.value_store.specs.code.Stores.{see_store}
 use Rattle.evidence_lookups.specs.code.JudgedSites.{AreJudged}
 use Rattle.evidence_lookups.specs.code.Said.{AreMadeWithin, AreSound}
 use Rattle.rule_calls.specs.code.Ends.{state_with}

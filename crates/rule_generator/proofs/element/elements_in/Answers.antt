@@ -10,7 +10,7 @@ use Rattle.rule_generator.proofs.Nodes.{child-value}
 use Rattle.rule_generator.proofs.Turns.{join-end, join-turn}
 use Rattle.rule_generator.proofs.element.elements_in.Goals as goal
 use Rattle.rule_meaning.specs.Values.{values_in}
-use Rattle.value_compare.proofs.Nodes.{length-values_in}
+use Rattle.value_store.proofs.Nodes.{length-values_in}
 
 pub loop-i-preserved : goal.loop-i-preserved
 loop-i-preserved c =

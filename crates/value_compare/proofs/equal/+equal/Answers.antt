@@ -4,7 +4,8 @@ use Rattle.doc_values.specs.Tree.{Label, count, AreValues, Nil, is_map}
 use Rattle.doc_values.specs.Places.{label_at, kids_at}
 use Rattle.doc_values.proofs.Lookups.{kids-formed}
 use Rattle.value_compare.specs.code.Entries.{may_find_entry}
-use Rattle.value_compare.specs.code.BookCovers.{covers, holds_in, compares_pattern}
+use Rattle.value_store.specs.code.BookCovers.{covers, holds_in}
+use Rattle.value_compare.specs.code.Meetings.{compares_pattern}
 use Rattle.rule_meaning.specs.Pairs.{same_items, same_entries, entry_of, told}
 use Rattle.rule_meaning.specs.Values.{value_at}
 use Rattle.value_compare.proofs.Forests.{from_index, is_at, key_value, no_key}

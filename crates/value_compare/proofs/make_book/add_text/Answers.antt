@@ -1,5 +1,5 @@
 use Rattle.std.proofs.Common.{◌≡◌, ◌++◌, ◌∷◌, [], true, sym, ap, ◌∙◌}
-use Rattle.value_compare.specs.code.Books.{has_text}
+use Rattle.value_store.specs.code.Books.{has_text}
 use Rattle.value_compare.proofs.Making.{gains-present, gains-added, made-no_refusal, no_less, read-added}
 use Rattle.value_compare.proofs.make_book.add_text.Goals as goal
 

@@ -1,7 +1,7 @@
 use Rattle.std.proofs.Common.{◌∷◌, [], ap, arith, get_or, map, take}
 use Rattle.std.proofs.lemmas.List.{take_all}
 use Rattle.std.proofs.lemmas.Result.{err_from_is_err_and}  -- what the exit of a `?` returns
-use Rattle.value_compare.specs.code.Making.{see_written}
+use Rattle.pattern_books.specs.code.Writing.{see_written}
 use Rattle.value_compare.proofs.Making.{gains-none, gains-append, same-gains, read-none, read-one, read-append, same-read, one-more, next-written, past_written, rose-later}
 use Rattle.value_compare.proofs.make_book.add_texts.Goals as goal
 

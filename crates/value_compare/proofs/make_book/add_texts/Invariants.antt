@@ -1,5 +1,6 @@
 use Rattle.std.proofs.Common.{ℕ, ◌≤◌, List, map, take}
-use Rattle.value_compare.specs.code.Making.{AreRead, IsReadBook, Gains, see_written}
+use Rattle.value_compare.specs.code.Making.{AreRead, IsReadBook, Gains}
+use Rattle.pattern_books.specs.code.Writing.{see_written}
 use Rattle.value_compare.proofs.make_book.add_texts.Given as goal
 
 abbrev pub invariant-loop-written : goal.invariant-loop-written

@@ -5,7 +5,8 @@ use Rattle.guard_io.specs.Outside.{FaultCounted}
 use Rattle.guard_syntax.specs.code.Seen.{see_file}
 use Rattle.rule_meaning.specs.PatternMatch.{pattern_in}
 use Rattle.rule_meaning.specs.Patterns.{Written, patterns_of}
-use Rattle.value_compare.specs.code.Making.{IsNextOf, see_written}
+use Rattle.value_compare.specs.code.Making.{IsNextOf}
+use Rattle.pattern_books.specs.code.Writing.{see_written}
 use Rattle.value_compare.specs.declared.make_book.BookRefusal.TheVariants.{BadPattern, PatternRefused}
 use Rattle.value_compare.proofs.Making.{book-made, same-read}
 use Rattle.value_compare.proofs.make_book.pattern_book.Goals as goal

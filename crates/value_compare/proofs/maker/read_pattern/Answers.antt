@@ -1,4 +1,4 @@
-use Rattle.value_compare.proofs.FindsLemmas.{none_of_refusal, pattern_of_too_big}
+use Rattle.pattern_books.proofs.FindsLemmas.{none_of_refusal, pattern_of_too_big}
 use Rattle.value_compare.proofs.maker.read_pattern.Goals as goal
 
 pub returns-in-Err-Syntax-clause-syntax : goal.returns-in-Err-Syntax-clause-syntax

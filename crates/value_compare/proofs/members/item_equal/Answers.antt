@@ -3,10 +3,10 @@ use Rattle.doc_values.specs.Places.{kids_at}
 use Rattle.doc_values.specs.Tree.{count, Forest}
 use Rattle.rule_meaning.specs.Pairs.{equal, is_yes, told}
 use Rattle.rule_meaning.specs.Values.{Value, value_at, values_in}
-use Rattle.value_compare.specs.code.Views.{see_view}
+use Rattle.value_store.specs.code.Views.{see_view}
 use Rattle.value_compare.proofs.AnswerKinds.{not_yes}
 use Rattle.value_compare.proofs.Items.{item-is, item-held, item_within}
-use Rattle.value_compare.proofs.Nodes.{length-values_in}
+use Rattle.value_store.proofs.Nodes.{length-values_in}
 use Rattle.value_compare.proofs.Walks.{any_hit, any_more, any_end}
 use Rattle.value_compare.proofs.members.item_equal.Goals as goal
 

@@ -3,7 +3,7 @@ use Rattle.std.specs.List.{list_any}
 use Rattle.doc_values.specs.Places.{kids_at}
 use Rattle.rule_meaning.specs.Pairs.{equal, is_yes}
 use Rattle.rule_meaning.specs.Values.{Value, values_in}
-use Rattle.value_compare.specs.code.Views.{see_view}
+use Rattle.value_store.specs.code.Views.{see_view}
 use Rattle.value_compare.proofs.members.item_equal.Given as goal
 
 abbrev pub invariant-loop-i : goal.invariant-loop-i

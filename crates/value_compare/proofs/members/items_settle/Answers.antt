@@ -2,9 +2,9 @@ use Rattle.std.proofs.Common.{◌<◌, map, refl, sym, ◌∙◌, arith}
 use Rattle.doc_values.specs.Places.{kids_at}
 use Rattle.doc_values.specs.Tree.{count, Forest}
 use Rattle.rule_meaning.specs.Values.{value_at, values_in}
-use Rattle.value_compare.specs.code.Views.{see_view}
+use Rattle.value_store.specs.code.Views.{see_view}
 use Rattle.value_compare.proofs.Items.{item-is, item_within}
-use Rattle.value_compare.proofs.Nodes.{length-values_in}
+use Rattle.value_store.proofs.Nodes.{length-values_in}
 use Rattle.value_compare.proofs.Settling.{items-end, items-hit, items-more, items-none, other_than, same_as}
 use Rattle.value_compare.proofs.members.items_settle.Goals as goal
 

@@ -2,7 +2,7 @@ use Rattle.std.proofs.lemmas.Grind.{common_steps}
 use Rattle.std.proofs.Common.{◌≤◌, length, map, refl, sym, ap, ◌∙◌, arith}
 use Rattle.std.proofs.lemmas.List.{length-map}
 use Rattle.value_compare.specs.code.Settled.{ends}
-use Rattle.value_compare.specs.code.Views.{see_view}
+use Rattle.value_store.specs.code.Views.{see_view}
 use Rattle.value_compare.proofs.Settling.{settled-end, settled-hit, settled-more, settled-none}
 use Rattle.value_compare.proofs.Walks.{seen_at, seen_within}
 use Rattle.value_compare.proofs.members.settles.Goals as goal

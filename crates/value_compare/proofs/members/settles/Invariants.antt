@@ -1,6 +1,6 @@
 use Rattle.std.proofs.Common.{◌≡◌, map, take}
 use Rattle.value_compare.specs.code.Settled.{settled}
-use Rattle.value_compare.specs.code.Views.{see_view}
+use Rattle.value_store.specs.code.Views.{see_view}
 use Rattle.value_compare.proofs.members.settles.Given as goal
 
 abbrev pub invariant-loop-right : goal.invariant-loop-right

@@ -1,7 +1,7 @@
 use Rattle.std.proofs.Common.{◌≡◌, Bool, map, sym, ap, subst, ◌∙◌, IfOk}
 use Rattle.doc_values.specs.Places.{kids_at}
 use Rattle.rule_meaning.specs.Values.{Value, values_in}
-use Rattle.value_compare.specs.code.Views.{see_view}
+use Rattle.value_store.specs.code.Views.{see_view}
 use Rattle.value_compare.proofs.Settling.{within-single, within-member, within-items}
 use Rattle.value_compare.proofs.members.within.Goals as goal
 

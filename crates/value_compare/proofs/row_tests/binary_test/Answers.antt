@@ -1,7 +1,7 @@
 use Rattle.std.proofs.Common.{◌≡◌, Bool, map, sym, ap, subst, ◌∙◌, IfOk}
 use Rattle.guard_syntax.specs.declared.syntax.Op.{Op}
 use Rattle.rule_meaning.specs.RowTests.{binary}
-use Rattle.value_compare.specs.code.Views.{see_view}
+use Rattle.value_store.specs.code.Views.{see_view}
 use Rattle.value_compare.proofs.Settling.{equals-settled}
 use Rattle.value_compare.proofs.row_tests.binary_test.Goals as goal
 

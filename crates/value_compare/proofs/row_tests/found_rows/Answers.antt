@@ -1,10 +1,10 @@
 use Rattle.std.proofs.lemmas.Grind.{common_steps}
 use Rattle.std.proofs.Common.{◌≡◌, ◌++◌, ◌∷◌, [], ap, map, ◌∙◌, Vec, Global, arith}
 use Rattle.std.specs.List.{list_all}
-use Rattle.value_compare.specs.code.BookCovers.{covers}
-use Rattle.value_compare.specs.code.Stores.{see_store}
-use Rattle.value_compare.specs.code.Views.{see_view}
-use Rattle.value_compare.specs.declared.view.View.{View}
+use Rattle.value_store.specs.code.BookCovers.{covers}
+use Rattle.value_store.specs.code.Stores.{see_store}
+use Rattle.value_store.specs.code.Views.{see_view}
+use Rattle.value_store.specs.declared.view.View.{View}
 use Rattle.value_compare.proofs.FoundRows.{more-missing, more-found, more-held}
 use Rattle.value_compare.proofs.row_tests.found_rows.Goals as goal
 use Rattle.value_compare.proofs.row_tests.found_rows.Goals.{in-Some+in_ok-push, in_default}

@@ -3,7 +3,7 @@ use Rattle.std.proofs.lemmas.List.{take_all}
 use Rattle.guard_syntax.specs.declared.row.Row.{Row}
 use Rattle.rule_meaning.specs.StoreModel.{meant}
 use Rattle.rule_meaning.specs.RowTests.{found_of, is_some_right}
-use Rattle.value_compare.specs.code.Stores.{see_store}
+use Rattle.value_store.specs.code.Stores.{see_store}
 use Rattle.rule_meaning.specs.Values.{Value}
 use Rattle.value_compare.proofs.FoundRows.{none-found-more, row-found}
 use Rattle.value_compare.proofs.row_tests.has_found.Goals as goal

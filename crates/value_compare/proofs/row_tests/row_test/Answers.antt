@@ -1,8 +1,8 @@
 use Rattle.std.proofs.Common.{List, map, refl, ap, sym, ◌∙◌}
 use Rattle.rule_meaning.specs.RowTests.{is_some_right}
 use Rattle.rule_meaning.specs.Values.{Value}
-use Rattle.value_compare.specs.code.Views.{see_view}
-use Rattle.value_compare.specs.declared.view.View.{View}
+use Rattle.value_store.specs.code.Views.{see_view}
+use Rattle.value_store.specs.declared.view.View.{View}
 use Rattle.value_compare.proofs.Items.{rights-held}
 use Rattle.value_compare.proofs.row_tests.row_test.Goals as goal
 

@@ -5,9 +5,9 @@ use Rattle.std.proofs.lemmas.List.Folds.{list_all_at, list_all_more}
 use Rattle.guard_syntax.specs.declared.row.Row.{Row}
 use Rattle.rule_meaning.specs.StoreModel.{meant}
 use Rattle.rule_meaning.specs.Pairs.{is_yes, ordered}
-use Rattle.value_compare.specs.code.Stores.{see_store}
+use Rattle.value_store.specs.code.Stores.{see_store}
 use Rattle.rule_meaning.specs.Values.{Value}
-use Rattle.value_compare.specs.code.Views.{see_view}
+use Rattle.value_store.specs.code.Views.{see_view}
 use Rattle.value_compare.proofs.FoundRows.{order-by-row}
 use Rattle.value_compare.proofs.Walks.{all_end}
 use Rattle.value_compare.proofs.row_tests.stands_to_each.Goals as goal

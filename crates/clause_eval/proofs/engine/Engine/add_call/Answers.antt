@@ -8,7 +8,7 @@ use Rattle.guard_builtins.specs.code.Seen.{see_made}
 use Rattle.guard_syntax.specs.declared.row.Row.{Row}
 use Rattle.rule_meaning.specs.Seeing.{grown, rows_kept, trees_kept}
 use Rattle.rule_meaning.specs.StoreModel.{made_at}
-use Rattle.value_compare.specs.code.Stores.{see_store}
+use Rattle.value_store.specs.code.Stores.{see_store}
 use Rattle.engine_states.specs.code.Adding.{line_for}
 use Rattle.engine_states.specs.code.Answers.{AreGiven, IsAnswerOf}
 use Rattle.engine_states.proofs.CallsAdded.{is-call-added, pushed-call, still-more}

@@ -10,7 +10,7 @@ use Rattle.rule_names.specs.code.Files.{file_of}
 use Rattle.rule_names.specs.declared.file.RuleFile.{RuleFile}
 use Rattle.rule_meaning.specs.Places.{Placed, candidates_at, rows_at_step}
 use Rattle.rule_meaning.specs.StoreModel.{is_known}
-use Rattle.value_compare.specs.code.Books.{IsBookOf}
+use Rattle.value_store.specs.code.Books.{IsBookOf}
 use Rattle.query_steps.specs.code.Placed.{StartsAt, candidates_of_place, rows_of_place}
 use Rattle.engine_states.specs.code.Adding.{Added}
 use Rattle.engine_states.proofs.StepsAdded.{current-there, filter-adds, filter-frame, filter-kind, filter-known, filter-later, filter-rows, filter-tried}

@@ -1,7 +1,7 @@
 use Rattle.std.proofs.Common.{◌∙◌}
 use Rattle.std.proofs.lemmas.Grind.{merely}
 use Rattle.std.proofs.lemmas.Result.{IfOk-weaker}
-use Rattle.value_compare.specs.code.Stores.{see_store}
+use Rattle.value_store.specs.code.Stores.{see_store}
 use Rattle.engine_states.proofs.EmptyEngine.{pushed-follows}
 use Rattle.engine_states.proofs.LinesNumbered.{pushed-number}
 use Rattle.clause_eval.proofs.engine.Engine.add_line.Goals as goal

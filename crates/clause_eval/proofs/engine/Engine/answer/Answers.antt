@@ -10,7 +10,7 @@ use Rattle.rule_names.specs.code.Files.{file_of}
 use Rattle.rule_names.specs.code.Seen.{see_piece}
 use Rattle.rule_names.specs.declared.piece.Piece.{Piece}
 use Rattle.rule_names.proofs.Arguments.{named-none, named-some}
-use Rattle.value_compare.specs.code.Books.{IsBookOf}
+use Rattle.value_store.specs.code.Books.{IsBookOf}
 use Rattle.engine_states.proofs.CallsAdded.{called-name, given-answer, given-many, given-pattern, given-read, name-there}
 use Rattle.clause_eval.specs.code.Engines.{see_engine}
 use Rattle.clause_eval.proofs.engine.Engine.answer.Goals as goal

@@ -1,4 +1,4 @@
-use Rattle.value_compare.specs.code.Stores.{see_store}
+use Rattle.value_store.specs.code.Stores.{see_store}
 use Rattle.engine_states.proofs.EnteredLines.{known-root}
 use Rattle.clause_eval.proofs.engine.Engine.enter_root.Goals as goal
 

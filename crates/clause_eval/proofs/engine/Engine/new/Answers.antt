@@ -1,6 +1,6 @@
 use Rattle.std.proofs.Common.{ap}
 use Rattle.std.proofs.lemmas.Grind.{merely}
-use Rattle.value_compare.specs.code.Stores.{see_store}
+use Rattle.value_store.specs.code.Stores.{see_store}
 use Rattle.engine_states.proofs.EmptyEngine.{nothing-follows, nothing-rests, nothing-whole}
 use Rattle.clause_eval.specs.code.Beside.{beside_in}
 use Rattle.engine_parts.proofs.FramePlaces.{no-frames}

@@ -1,5 +1,5 @@
 use Rattle.std.specs.Prelude.{string_bytes}
-use Rattle.value_compare.specs.code.Views.{see_view}
+use Rattle.value_store.specs.code.Views.{see_view}
 use Rattle.guard_builtins.proofs.Replacing.{text-replaced}
 use Rattle.guard_builtins.proofs.replace.ReplacerValueChange.given.Goals as goal
 

@@ -1,5 +1,5 @@
 use Rattle.std.proofs.Common.{◌≡◌, is_some, sym, ap, subst, rules}
-use Rattle.value_compare.specs.code.Matching.{IsMatcherOf}
+use Rattle.pattern_books.specs.code.Matching.{IsMatcherOf}
 use Rattle.value_compare.proofs.KeptMatchers.{AreKept, at_text, kept_with, kept_written, same_pattern}
 use Rattle.value_compare.proofs.matchers.Matchers.finds.Goals as goal
 

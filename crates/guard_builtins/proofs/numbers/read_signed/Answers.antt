@@ -1,5 +1,0 @@
-use Rattle.guard_builtins.proofs.Signs.{signed-read}
-use Rattle.guard_builtins.proofs.numbers.read_signed.Goals as goal
-
-pub returns-in-Some : goal.returns-in-Some
-returns-in-Some c = signed-read c.args.text.now c.in-Some.rest.now c.read_number.result c.in-Some.ensures c.read_number.ensures

@@ -1,6 +1,0 @@
-use Rattle.std.proofs.Common.{◌∙◌}
-use Rattle.value_compare.proofs.BookLemmas.{looked_up}
-use Rattle.value_compare.proofs.book.PatternBook.has.Goals as goal
-
-pub returns : goal.returns
-returns c = rw (← c.self.view_is) (c.contains_key.ensures ∙ looked_up c.args.text.now c.self.inside.patterns.entries)

@@ -1,5 +1,0 @@
-use Rattle.value_compare.proofs.FindsLemmas.{pattern_of_regex}
-use Rattle.value_compare.proofs.pattern.Pattern.of.Goals as goal
-
-pub returns-clause-read : goal.returns-clause-read
-returns-clause-read c = pattern_of_regex c.args.regex c.requires.config c.requires.read

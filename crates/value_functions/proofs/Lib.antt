@@ -1,0 +1,4 @@
+mod ReadTexts
+mod Signs
+mod TextRows
+mod Zeros
