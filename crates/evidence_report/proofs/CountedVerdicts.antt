@@ -15,7 +15,7 @@ use Rattle.evidence_report.specs.code.Counts.{AreCounts, counted}
 use Rattle.evidence_report.specs.code.RuleTables.{IsRuleLine}
 use Rattle.evidence_report.specs.code.VerdictLines.{see_verdict}
 use Rattle.evidence_report.specs.declared.verdict_lines.VerdictLine.{VerdictLine}
-use Rattle.evidence_report.proofs.EarlierCites.{number-within}
+use Rattle.evidence_leads.proofs.EarlierCites.{number-within}
 
 -- a verdict that stands for what is past the end of a list
 abbrev pub past_verdict : VerdictLine

@@ -10,10 +10,10 @@ use Rattle.rule_meaning.specs.Seeing.{call_at}
 use Rattle.rule_meaning.specs.StoreModel.{StoreModel}
 use Rattle.evidence_truth.specs.code.LineFails.{line_fails}
 use Rattle.evidence_report.specs.code.Counts.{AreCounts, count_of, counted}
-use Rattle.evidence_report.specs.code.Leads.{AreBelow, CitesFall, IsBelow, Leading, entries_behind, line_leads, see_lead}
-use Rattle.evidence_report.specs.declared.lead.Lead.{Lead}
-use Rattle.evidence_report.specs.declared.lead.Lead.TheVariants as lead
-use Rattle.evidence_report.proofs.LeadEntries.{below-line, fails-behind}
+use Rattle.evidence_leads.specs.code.Leads.{AreBelow, CitesFall, IsBelow, Leading, entries_behind, line_leads, see_lead}
+use Rattle.evidence_leads.specs.declared.lead.Lead.{Lead}
+use Rattle.evidence_leads.specs.declared.lead.Lead.TheVariants as lead
+use Rattle.evidence_leads.proofs.LeadEntries.{below-line, fails-behind}
 
 capped : (count e r cap : ℕ) → min (min (count + min e cap) cap + r) cap ≡ min (count + (e + r)) cap
 capped count e r cap = omega arith

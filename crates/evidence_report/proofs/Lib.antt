@@ -1,20 +1,11 @@
-mod Appending
 mod CountedVerdicts
 mod Counting
 mod DrillTexts
-mod EarlierCites
-mod FailingLines
-mod KnownRows
-mod LeadEntries
 mod Listing
-mod LoopLeads
-mod PartLeads
 mod ReportTexts
 mod ReportedBy
 mod RuleSites
 mod RuleTables
-mod SetsAsked
-mod SitesOfLines
 pub mod TakenTexts
 mod Tallies
 mod ToldEntries

@@ -15,7 +15,7 @@ use Rattle.evidence_lines.specs.declared.line.Outcome.TheVariants as says
 use Rattle.evidence_lookups.specs.code.JudgedSites.{is_rule}
 use Rattle.evidence_report.specs.code.RuleTables.{AreRuleLines, IsRuleLine, rule_line, ruled_by, ruled_site, with_line}
 use Rattle.evidence_report.specs.declared.rule_lines.RuleLine.{RuleLine}
-use Rattle.evidence_report.proofs.EarlierCites.{number-within}
+use Rattle.evidence_leads.proofs.EarlierCites.{number-within}
 
 -- the table behind so many lines
 abbrev pub table_upto : List Line → (sites : ℕ) → ℕ → List (Option RuleLine)

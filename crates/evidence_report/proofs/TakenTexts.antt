@@ -72,10 +72,6 @@ pub none-at-exit : {A E : Type 0} (P : A → Type 0) (r : Result A E) (e : E) �
 none-at-exit P (Ok x) e is = absurd is
 none-at-exit P (Err y) e is = tt
 
-pub nothing-at-exit : {A E : Type 0} (P : Type 0) (r : Result A E) (e : E) → IsErrAnd r (λ (y : E). y ≡ e) → OnOk r P
-nothing-at-exit P (Ok x) e is = absurd is
-nothing-at-exit P (Err y) e is = tt
-
 -- what was taken of a text, said of the text that it is
 pub same-taken : {A E : Type 0} (r : Result A E) (a b : Option (List ℕ)) (t u : List ℕ) → t ≡ u → OnOk r (Takes a t b) → OnOk r (Takes a u b)
 same-taken r a b t u is = subst (λ (x : List ℕ). OnOk r (Takes a x b)) is

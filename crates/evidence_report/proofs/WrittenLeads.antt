@@ -8,16 +8,16 @@ use Rattle.rule_meaning.specs.Fails.{Entry}
 use Rattle.rule_meaning.specs.StoreModel.{StoreModel}
 use Rattle.evidence_truth.specs.code.LineFails.{line_fails}
 use Rattle.report_text.specs.Texts.{Texts}
-use Rattle.evidence_report.specs.code.Leads.{AreBelow, CitesFall, IsBelow, Leading, ToLine, entries_behind, line_leads, see_lead}
+use Rattle.evidence_leads.specs.code.Leads.{AreBelow, CitesFall, IsBelow, Leading, ToLine, entries_behind, line_leads, see_lead}
 use Rattle.evidence_report.specs.code.Written.{entry_lines}
 use Rattle.guard_syntax.specs.declared.row.Origin.TheVariants.{Template}
 use Rattle.report_text.specs.code.SeenEntries.{see_entry}
 use Rattle.report_text.specs.declared.entry.Entry as lead_entry
 use Rattle.report_text.specs.declared.entry.Shown.TheVariants as shown
 use Rattle.report_text.specs.declared.entry.Word.TheVariants as word
-use Rattle.evidence_report.specs.declared.lead.Lead.{Lead}
-use Rattle.evidence_report.specs.declared.lead.Lead.TheVariants as lead
-use Rattle.evidence_report.proofs.LeadEntries.{below-line, fails-behind}
+use Rattle.evidence_leads.specs.declared.lead.Lead.{Lead}
+use Rattle.evidence_leads.specs.declared.lead.Lead.TheVariants as lead
+use Rattle.evidence_leads.proofs.LeadEntries.{below-line, fails-behind}
 
 lines-both : (known : StoreModel) (texts : Texts) (es fs : List Entry) → entry_lines known texts (es ++ fs) ≡ entry_lines known texts es ++ entry_lines known texts fs
 lines-both known texts [] fs = refl

@@ -1,6 +1,5 @@
 -- What serves the code and its proofs alone: nobody has to believe it.
 pub mod Counts
-pub mod Leads
 pub mod RuleEntries
 pub mod RuleTables
 pub mod VerdictLines

@@ -8,11 +8,9 @@ ghost use Rattle.evidence_truth.specs.code.LineFails.{line_fails};
 ghost use Rattle.rule_meaning.specs.Seeing.{call_at};
 ghost use Rattle.rule_meaning.specs.StoreModel.{StoreModel};
 ghost use Rattle.evidence_report.specs.code.Counts.{AreCounts, count_of, counted};
-ghost use Rattle.evidence_report.specs.code.Leads.{AreBelow, CitesFall, IsBelow, entries_behind, see_lead};
+ghost use Rattle.evidence_leads.specs.code.Leads.{AreBelow, CitesFall, IsBelow, entries_behind, see_lead};
 
-use crate::cited::is_failing;
-use crate::lead::Lead;
-use crate::leads::leads_of;
+use evidence_leads::{Lead, is_failing, leads_of};
 use evidence_lookups::line_context::LineContext;
 use std::alloc::{AllocError, Global};
 

@@ -4,16 +4,11 @@
 //! report (`guard_ends`); of evaluators it knows nothing.
 #![tactic(auto)]
 
-mod cited;
 mod count;
 pub mod drill;
 mod laws;
-mod lead;
-mod leads;
 pub mod report;
-mod rows;
 mod rule_lines;
-mod shown;
 mod tally;
 pub mod verdict_lines;
 mod write;

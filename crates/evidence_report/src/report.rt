@@ -14,7 +14,7 @@ ghost use Rattle.guard_ends.specs.Drill.{fail_count};
 ghost use Rattle.guard_ends.specs.Report as reports;
 ghost use Rattle.guard_ends.specs.Reported.{reported};
 ghost use Rattle.evidence_report.specs.code.Counts.{AreCounts, counted};
-ghost use Rattle.evidence_report.specs.code.Leads.{CitesFall};
+ghost use Rattle.evidence_leads.specs.code.Leads.{CitesFall};
 ghost use Rattle.evidence_report.specs.code.RuleEntries.{IsAccepted};
 ghost use Rattle.evidence_report.specs.code.RuleTables.{IsRuleLine};
 ghost use Rattle.evidence_report.specs.code.VerdictLines.{AreSaid, see_verdict, verdicts_in};

@@ -2,11 +2,10 @@
 ghost use Rattle.evidence_lookups.specs.code.Grounds.{known_of, lines_of};
 ghost use Rattle.evidence_truth.specs.code.LineFails.{line_fails};
 ghost use Rattle.report_text.specs.code.SeenTexts.{see_lined};
-ghost use Rattle.evidence_report.specs.code.Leads.{CitesFall, IsShown, entries_behind, see_lead};
+ghost use Rattle.evidence_leads.specs.code.Leads.{CitesFall, IsShown, entries_behind, see_lead};
 ghost use Rattle.evidence_report.specs.code.Written.{Writes, entry_lines};
 
-use crate::lead::Lead;
-use crate::leads::leads_of;
+use evidence_leads::{Lead, leads_of};
 use evidence_lookups::line_context::LineContext;
 use guard_io::Sink;
 use report_text::{LinedTexts, ReportFault, write_entry_over};

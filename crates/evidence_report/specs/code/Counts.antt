@@ -1,18 +1,9 @@
 -- How many entries lines fail by, as far as is counted.
-use Rattle.std.specs.Prelude.{ℕ, Bool, true, false, Option, Some, None, suc, ◌≡◌, ◌<◌, ◌^◌, ◌-◌, List, length, min, slice_index_or, if◌then◌else◌}
-use Rattle.guard_syntax.specs.declared.row.Verdict.{Verdict}
-use Rattle.guard_syntax.specs.declared.row.Verdict.TheVariants.{Pass, Fail, Skip}
+use Rattle.std.specs.Prelude.{ℕ, suc, ◌≡◌, ◌<◌, ◌^◌, ◌-◌, List, length, min, slice_index_or, if◌then◌else◌}
 use Rattle.evidence_lines.specs.declared.line.Line.{Line}
 use Rattle.rule_meaning.specs.Fails.{Entry}
 use Rattle.rule_meaning.specs.StoreModel.{StoreModel}
 use Rattle.evidence_truth.specs.code.LineFails.{is_failing, line_fails}
-
--- a verdict that is FAIL
-abbrev pub is_some_fail : Option Verdict → Bool
-is_some_fail (Some Fail) = true
-is_some_fail (Some Pass) = false
-is_some_fail (Some Skip) = false
-is_some_fail None = false
 
 -- a count stands still at the most that 64 bits hold
 abbrev pub counted : List Entry → ℕ

@@ -2,7 +2,7 @@ use Rattle.std.proofs.Common.{◌≡◌, ℕ, ◌+◌, ◌-◌, ◌^◌, suc, le
 use Rattle.std.proofs.lemmas.Grind.{common_steps}
 use Rattle.evidence_truth.specs.code.LineFails.{line_fails}
 use Rattle.evidence_report.specs.code.Counts.{counted}
-use Rattle.evidence_report.specs.code.Leads.{entries_behind, see_lead}
+use Rattle.evidence_leads.specs.code.Leads.{entries_behind, see_lead}
 use Rattle.evidence_report.proofs.Counting.{all_behind, below-lead, count-more}
 use Rattle.evidence_report.proofs.WrittenLeads.{past_lead}
 use Rattle.evidence_report.proofs.count.count_leads.Goals as goal

@@ -2,7 +2,7 @@ use Rattle.std.proofs.Common.{◌≡◌, suc, ◌+◌, ◌-◌, ◌^◌, ◌≤�
 use Rattle.evidence_lines.specs.declared.line.Line.{Line}
 use Rattle.rule_meaning.specs.StoreModel.{StoreModel}
 use Rattle.evidence_report.specs.code.Counts.{AreCounts, counted}
-use Rattle.evidence_report.specs.code.Leads.{AreBelow, see_lead}
+use Rattle.evidence_leads.specs.code.Leads.{AreBelow, see_lead}
 use Rattle.evidence_report.proofs.Counting.{all_behind}
 use Rattle.evidence_report.proofs.count.count_leads.Given as goal
 

@@ -2,7 +2,7 @@ use Rattle.std.proofs.Common.{◌≡◌, ◌+◌, suc, Bool, true, false, length
 use Rattle.evidence_lookups.specs.code.Grounds.{known_of, lines_of}
 use Rattle.evidence_truth.specs.code.LineFails.{is_failing, line_fails}
 use Rattle.evidence_report.specs.code.Counts.{counted}
-use Rattle.evidence_report.specs.code.Leads.{see_lead}
+use Rattle.evidence_leads.specs.code.Leads.{see_lead}
 use Rattle.evidence_report.proofs.Counting.{next-counted}
 use Rattle.evidence_report.proofs.count.count_next.Goals as goal
 

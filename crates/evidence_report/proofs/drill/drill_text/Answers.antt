@@ -9,7 +9,7 @@ use Rattle.guard_ends.specs.Report.{total_line}
 use Rattle.evidence_report.specs.code.VerdictLines.{AreSaid, heading, verdicts_in}
 use Rattle.evidence_report.specs.declared.verdict_lines.VerdictLine.{VerdictLine}
 use Rattle.evidence_report.proofs.DrillTexts.{drill-told}
-use Rattle.evidence_report.proofs.EarlierCites.{cites-fall}
+use Rattle.evidence_leads.proofs.EarlierCites.{cites-fall}
 use Rattle.evidence_report.proofs.TakenTexts.{none-at-exit}
 use Rattle.evidence_report.proofs.drill.drill_text.Goals as goal
 

@@ -7,7 +7,7 @@ use Rattle.guard_ends.specs.Drill.{fail_count}
 use Rattle.guard_ends.specs.Reported.{reported}
 use Rattle.evidence_report.specs.code.VerdictLines.{AreSaid, see_verdict}
 use Rattle.evidence_report.specs.declared.verdict_lines.VerdictLine.{VerdictLine}
-use Rattle.evidence_report.proofs.EarlierCites.{cites-fall}
+use Rattle.evidence_leads.proofs.EarlierCites.{cites-fall}
 use Rattle.evidence_report.proofs.TakenTexts.{none-at-exit}
 use Rattle.evidence_report.proofs.report.count_fails.Goals as goal
 

@@ -8,7 +8,7 @@ use Rattle.report_text.specs.code.SeenTexts.{see_lined}
 use Rattle.evidence_report.specs.code.VerdictLines.{AreSaid, see_verdict, verdicts_in}
 use Rattle.evidence_report.specs.code.Written.{Takes, TakesFront}
 use Rattle.evidence_report.specs.declared.verdict_lines.VerdictLine.{VerdictLine}
-use Rattle.evidence_report.proofs.EarlierCites.{cites-fall}
+use Rattle.evidence_leads.proofs.EarlierCites.{cites-fall}
 use Rattle.evidence_report.proofs.ReportTexts.{whole-text}
 use Rattle.evidence_report.proofs.TakenTexts.{front-longer, front-then, of-error, takes-then}
 use Rattle.evidence_report.proofs.report.write_report.Goals as goal

@@ -6,7 +6,7 @@ use Rattle.rule_meaning.specs.Seeing.{world_of}
 use Rattle.guard_ends.specs.Reported.{of_rule}
 use Rattle.evidence_report.specs.code.VerdictLines.{Lists}
 use Rattle.evidence_report.proofs.Listing.{among-seen, rules-end, rules-more}
-use Rattle.evidence_report.proofs.TakenTexts.{nothing-at-exit}
+use Rattle.evidence_leads.proofs.Exits.{nothing-at-exit}
 use Rattle.evidence_report.proofs.verdict_lines.list_rules.Goals as goal
 
 pub list_rule-requires : goal.list_rule-requires

@@ -4,9 +4,9 @@ use Rattle.evidence_lines.specs.Lines.{line_of}
 use Rattle.evidence_lookups.specs.code.Grounds.{known_of, lines_of}
 use Rattle.evidence_truth.specs.code.LineFails.{line_fails}
 use Rattle.report_text.specs.code.SeenTexts.{see_lined}
-use Rattle.evidence_report.specs.code.Leads.{IsShown, line_leads, see_lead}
+use Rattle.evidence_leads.specs.code.Leads.{IsShown, line_leads, see_lead}
 use Rattle.evidence_report.specs.code.Written.{Writes, entry_lines}
-use Rattle.evidence_report.specs.declared.lead.Lead.{Lead}
+use Rattle.evidence_leads.specs.declared.lead.Lead.{Lead}
 use Rattle.evidence_report.proofs.TakenTexts.{text-ends, text-more, text-starts, text-stops}
 use Rattle.evidence_report.proofs.WrittenLeads.{entry-text, lead-below, lead_rank, lead_text, line-text, past_lead, rank-less}
 use Rattle.evidence_report.proofs.Writing.{loop-ends, loop-goes, loop-stops, writes-refused}

@@ -1,8 +1,0 @@
-use Rattle.std.proofs.Common.{ap, ◌∙◌}
-use Rattle.evidence_lines.specs.Lines.{line_of}
-use Rattle.evidence_report.specs.code.Counts.{is_some_fail}
-use Rattle.evidence_report.proofs.FailingLines.{fails-by}
-use Rattle.evidence_report.proofs.cited.is_failing.Goals as goal
-
-pub returns : goal.returns
-returns c known = c.is_some_fail.ensures ∙ ap is_some_fail c.verdict_at.ensures ∙ fails-by (line_of c.args.lines.now c.args.number)
