@@ -8,7 +8,8 @@ use Rattle.literal_parser.specs.code.Parser.{Read, note_range, opens, takes, has
 use Rattle.literal_parser.specs.code.LiteralReading.{bounds, range, bounded, list, map_of, node, more_items, items_of, valued, entry, more_entries, entries_of, literal_of}
 use Rattle.literal_parser.specs.Brackets.{open_before}
 use Rattle.guard_parser.specs.File.{IsShallow, Rules}
-use Rattle.guard_parser.specs.code.Reading.{named_bar, capture, note, neg, worded, operator, keys_operator, names, params, dotted, keyed, filtered, bracketed, step, steps, start_step, query_of, tree_expr, applied, asked_expr, named_expr, expr_of, found_expr, value_of, more_exprs_of, exprs_of, right, tested, called, referred, ruled, judged, headed, led_by_name, cond_of, cond_part, ors, disj_of, disjs, conds_of, opt_conds, guarded_part, kinds_part, full_part, let_of, body_items, body_end, body_of, head, rule_of, file_items, contents, whole_file}
+use Rattle.part_parser.specs.code.Reading.{named_bar, capture, note, neg, worded, operator, keys_operator, dotted, keyed, filtered, bracketed, step, steps, start_step, query_of, tree_expr, applied, asked_expr, named_expr, expr_of, found_expr, value_of, more_exprs_of, exprs_of, right, tested, called, referred, ruled, judged, headed, led_by_name, cond_of, cond_part, ors, disj_of, disjs, conds_of, opt_conds, guarded_part, kinds_part, full_part, let_of, body_items, body_end, body_of}
+use Rattle.guard_parser.specs.code.FileReading.{names, params, head, rule_of, file_items, contents, whole_file}
 use Rattle.guard_parser.proofs.Laws.{read_is, reading}
 use Rattle.guard_ends.specs.Drill.{drill_rules}
 use Rattle.guard_laws.proofs.DrillRules.{all-let, drill-file, drill-places, drill-tokens, every-rule, low-rule, odd-rule}

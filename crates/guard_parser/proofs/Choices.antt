@@ -5,10 +5,10 @@ use Rattle.literal_parser.specs.Lexemes.{Lexeme}
 use Rattle.literal_parser.specs.Forms.{form, is_name, is_any_name, is_lparen, is_plain, is_constant, is_function_word, is_some_word, is_start, is_neg, is_operator_word, opens_range, is_literal, is_applied, begins_query, leads, is_led}
 use Rattle.literal_parser.specs.States.{State}
 use Rattle.literal_parser.specs.code.Parser.{Parser, choose, choose_pair, choose_next, choose_third}
-use Rattle.guard_parser.specs.code.Reading.{Inner, tree_expr, applied, asked_expr, named_expr, expr_of, found_expr, value_of, headed, ruled, led_by_name, cond_of}
+use Rattle.part_parser.specs.code.Reading.{Inner, tree_expr, applied, asked_expr, named_expr, expr_of, found_expr, value_of, headed, ruled, led_by_name, cond_of}
 use Rattle.literal_parser.proofs.Combine.{Gives}
 use Rattle.literal_parser.proofs.Apart.{apart, implied}
-use Rattle.guard_parser.proofs.Rooms.{roomy_reads}
+use Rattle.part_parser.proofs.Rooms.{roomy_reads}
 use Rattle.guard_parser.proofs.Facts.{literal_range, literal_plain, literal_constant, literal_applied, literal_named, literal_other, literal_word, led_by_next, led_by_third, unled_next, unled_third}
 
 -- no test answers both

@@ -11,7 +11,8 @@ use Rattle.literal_parser.specs.code.Parser.{Parser}
 use Rattle.literal_parser.specs.Literal.{IsLiteral}
 use Rattle.literal_parser.specs.code.LiteralReading.{literal_of}
 use Rattle.guard_parser.specs.Grammar.{Sort, ALet, ARule, APart, Piece, of_sort, is_sort, body_sort, file_sort, IsFilled, InRow, IsCapture, IsNote, IsNeg, IsOperator, IsKeysOperator, IsAny, IsNot, IsNames, IsBody, AreLets, AreDisjs, IsLet, IsConds, IsDisjs, IsOptConds, IsDisj, IsOrs, IsPart, IsRight, IsQuery, IsStart, IsSteps, IsStep, IsExpr, IsExprs, IsMoreExprs, IsHead, IsRule, AreRules, IsContents}
-use Rattle.guard_parser.specs.code.Reading.{is_filled, Inner, named_bar, capture, note, neg, worded, operator, keys_operator, names, params, dotted, keyed, filtered, bracketed, step, steps, start_step, query_of, tree_expr, applied, asked_expr, expr_of, found_expr, value_of, more_exprs_of, exprs_of, right, tested, called, referred, ruled, judged, headed, cond_of, cond_part, ors, disj_of, disjs, conds_of, opt_conds, guarded_part, kinds_part, bodied, full_part, let_of, body_items, body_end, body_of, head, rule_of, file_items, contents, inners}
+use Rattle.part_parser.specs.code.Reading.{is_filled, Inner, named_bar, capture, note, neg, worded, operator, keys_operator, dotted, keyed, filtered, bracketed, step, steps, start_step, query_of, tree_expr, applied, asked_expr, expr_of, found_expr, value_of, more_exprs_of, exprs_of, right, tested, called, referred, ruled, judged, headed, cond_of, cond_part, ors, disj_of, disjs, conds_of, opt_conds, guarded_part, kinds_part, bodied, full_part, let_of, body_items, body_end, body_of, inners}
+use Rattle.guard_parser.specs.code.FileReading.{names, params, head, rule_of, file_items, contents}
 use Rattle.literal_parser.specs.code.LiteralDepth.{deep_forest}
 use Rattle.guard_parser.specs.code.Depth.{deep_body, deep_lets, deep_let, deep_conds, deep_opt_conds, deep_disjs, deep_disj, deep_parts, deep_part, deep_query, deep_steps, deep_step, deep_expr, deep_opt_expr, deep_exprs, deep_rule, deep_rules}
 use Rattle.literal_parser.proofs.Combine.{Gives, gives, gives_then, gives_if}

@@ -13,7 +13,8 @@ use Rattle.literal_parser.specs.Lexemes.{keyword_of, lexemes}
 use Rattle.literal_parser.specs.States.{start}
 use Rattle.literal_parser.specs.code.Parser.{Outcome, Read, Fail, note_range, opens, takes, has, choose, choose_pair, choose_next, choose_third}
 use Rattle.literal_parser.specs.code.LiteralReading.{bounds, range, bounded, list, map_of, node, more_items, items_of, valued, entry, more_entries, entries_of, literal_of}
-use Rattle.guard_parser.specs.code.Reading.{FileItems, named_bar, capture, note, neg, worded, operator, keys_operator, names, params, dotted, keyed, filtered, bracketed, step, steps, start_step, query_of, tree_expr, applied, asked_expr, named_expr, expr_of, found_expr, value_of, more_exprs_of, exprs_of, right, tested, called, referred, ruled, judged, headed, led_by_name, cond_of, cond_part, ors, disj_of, disjs, conds_of, opt_conds, guarded_part, kinds_part, bodied, full_part, let_of, body_items, body_end, body_of, head, rule_of, file_items, contents, whole_file, inners}
+use Rattle.part_parser.specs.code.Reading.{named_bar, capture, note, neg, worded, operator, keys_operator, dotted, keyed, filtered, bracketed, step, steps, start_step, query_of, tree_expr, applied, asked_expr, named_expr, expr_of, found_expr, value_of, more_exprs_of, exprs_of, right, tested, called, referred, ruled, judged, headed, led_by_name, cond_of, cond_part, ors, disj_of, disjs, conds_of, opt_conds, guarded_part, kinds_part, bodied, full_part, let_of, body_items, body_end, body_of, inners}
+use Rattle.guard_parser.specs.code.FileReading.{FileItems, names, params, head, rule_of, file_items, contents, whole_file}
 
 abbrev t : TokenKind → ℕ → ℕ → Token
 t kind from to = record { kind = kind; from = from; to = to }

@@ -7,7 +7,8 @@ use Rattle.literal_parser.specs.Lexemes.{Lexeme, Sign, End}
 use Rattle.literal_parser.specs.Forms.{form, is_end, is_name, is_neg, is_note, is_or, is_lbrace, is_rbrace, is_lparen, is_comma, is_let, is_some_word, is_any_name, is_function_word, is_plain, begins_cond, begins_part, leads, text_of}
 use Rattle.literal_parser.specs.States.{State, past, opened, start}
 use Rattle.literal_parser.specs.code.Parser.{Outcome, Read, Fail, Parser, and_then, ◌>>=◌, ◌>>◌, pure, stop, opens, takes, choose}
-use Rattle.guard_parser.specs.code.Reading.{BodyItems, FileItems, Inner, is_filled, note, ruled, referred, led_by_name, cond_of, cond_part, ors, disjs, conds_of, tree_expr, expr_of, more_exprs_of, exprs_of, let_of, full_part, disj_of, body_items, body_end, body_of, contents, whole_file, inners}
+use Rattle.part_parser.specs.code.Reading.{BodyItems, Inner, is_filled, note, ruled, referred, led_by_name, cond_of, cond_part, ors, disjs, conds_of, tree_expr, expr_of, more_exprs_of, exprs_of, let_of, full_part, disj_of, body_items, body_end, body_of, inners}
+use Rattle.guard_parser.specs.code.FileReading.{FileItems, contents, whole_file}
 use Rattle.literal_parser.proofs.Combine.{Gives, gives, gives_then, horizon}
 use Rattle.literal_parser.proofs.Apart.{apart, implied}
 use Rattle.literal_parser.proofs.Steps.{gives_opens, gives_has, by, by_next}

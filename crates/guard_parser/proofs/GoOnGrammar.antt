@@ -11,8 +11,9 @@ use Rattle.literal_parser.specs.Lexemes.{Lexeme, Word, Name, Reserved, TypeName,
 use Rattle.literal_parser.specs.Forms.{form, word_form, is_name, is_rule_name, is_any_name, is_type_name, is_var, is_index, is_note, is_lbrace, is_lparen, is_rparen, is_lbracket, is_rbracket, is_comma, is_bar, is_dot, is_star, is_assign, is_equality, is_sign, is_let, is_rule, is_when, is_some_word, is_or, is_neg, is_keys, is_this, is_in, is_operator_word, is_key, is_first_key, is_start, is_plain, is_constant, is_function_word, is_opening_end, begins_query, begins_step, begins_cond, begins_part, leads, opens_range, text_of, named_of, index_of, operator_of, sign_of, is_binary}
 use Rattle.literal_parser.specs.States.{State, past, opened}
 use Rattle.literal_parser.specs.code.Parser.{Outcome, Read, Fail, Parser, and_then, ◌>>=◌, ◌>>◌, pure, stop, opens, takes, has, choose, choose_pair, choose_next, choose_third}
-use Rattle.guard_parser.specs.code.Reading.{Inner, bodied, named_bar, capture, note, neg, worded, operator, keys_operator, names, params, dotted, keyed, filtered, bracketed, step, steps, start_step, query_of, tree_expr, applied, asked_expr, named_expr, expr_of, found_expr, value_of, more_exprs_of, exprs_of, right, tested, called, referred, ruled, judged, headed, led_by_name, cond_of, cond_part, ors, disj_of, disjs, conds_of, opt_conds, guarded_part, kinds_part, full_part, let_of, body_items, head, rule_of, file_items, contents}
-use Rattle.guard_parser.proofs.Rooms.{roomy_reads, full_stops}
+use Rattle.part_parser.specs.code.Reading.{Inner, bodied, named_bar, capture, note, neg, worded, operator, keys_operator, dotted, keyed, filtered, bracketed, step, steps, start_step, query_of, tree_expr, applied, asked_expr, named_expr, expr_of, found_expr, value_of, more_exprs_of, exprs_of, right, tested, called, referred, ruled, judged, headed, led_by_name, cond_of, cond_part, ors, disj_of, disjs, conds_of, opt_conds, guarded_part, kinds_part, full_part, let_of, body_items}
+use Rattle.guard_parser.specs.code.FileReading.{names, params, head, rule_of, file_items, contents}
+use Rattle.part_parser.proofs.Rooms.{roomy_reads, full_stops}
 use Rattle.literal_parser.proofs.Combine.{gives, gives_then}
 use Rattle.literal_parser.proofs.Apart.{apart, implied, denied}
 use Rattle.literal_parser.proofs.Steps.{gives_opens, gives_has, by_next, by_third}

@@ -9,7 +9,8 @@ use Rattle.literal_parser.specs.States.{State, start}
 use Rattle.guard_parser.specs.Grammar.{IsContents}
 use Rattle.literal_parser.specs.code.Parser.{Outcome, Read, Fail}
 use Rattle.literal_parser.specs.code.Reads.{site_of}
-use Rattle.guard_parser.specs.code.Reading.{FileItems, whole_file, inners, numbered}
+use Rattle.part_parser.specs.code.Reading.{inners, numbered}
+use Rattle.guard_parser.specs.code.FileReading.{FileItems, whole_file}
 use Rattle.guard_parser.specs.code.Depth.{deep_file}
 use Rattle.literal_parser.specs.Brackets.{IsShallowTo}
 use Rattle.guard_parser.specs.File.{IsSpelledBy, IsSpelled, IsShallow, IsDeadEnd, MayGoOn, going_on, listed}

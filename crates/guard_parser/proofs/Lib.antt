@@ -1,6 +1,5 @@
 pub mod Facts
 pub mod Grows
-pub mod Rooms
 pub mod Sound
 pub mod Local
 pub mod Examples
@@ -16,10 +15,6 @@ pub mod TokenForms
 pub mod Opened
 pub mod Turns
 pub mod Count
-pub mod CodeSteps
-pub mod BodySteps
-pub mod SeenForms
-pub mod Leads
 pub mod GoOnGrammar
 pub mod GoOnFile
 pub mod Steady

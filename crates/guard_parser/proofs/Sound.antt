@@ -10,11 +10,12 @@ use Rattle.literal_parser.specs.code.Parser.{Parser, stop}
 use Rattle.literal_parser.specs.Literal.{IsLiteral}
 use Rattle.literal_parser.specs.code.LiteralReading.{literal_of}
 use Rattle.guard_parser.specs.Grammar.{ALet, ARule, APart, Piece, of_sort, part_sort, body_sort, file_sort, IsFilled, InRow, IsCapture, IsNote, IsNeg, IsOperator, IsKeysOperator, IsAny, IsNot, IsNames, IsBody, AreLets, AreDisjs, IsLet, IsConds, IsDisjs, IsOptConds, IsDisj, IsOrs, IsPart, IsRight, IsQuery, IsStart, IsSteps, IsStep, IsExpr, IsExprs, IsMoreExprs, IsHead, IsRule, AreRules, IsContents}
-use Rattle.guard_parser.specs.code.Reading.{is_filled, BodyItems, FileItems, Inner, named_bar, capture, note, neg, worded, operator, keys_operator, names, params, dotted, keyed, filtered, bracketed, step, steps, start_step, query_of, tree_expr, applied, asked_expr, named_expr, expr_of, found_expr, value_of, more_exprs_of, exprs_of, right, tested, called, referred, ruled, judged, headed, led_by_name, cond_of, cond_part, ors, disj_of, disjs, conds_of, opt_conds, guarded_part, kinds_part, full_part, let_of, body_items, body_end, body_of, head, rule_of, file_items, contents, inners}
+use Rattle.part_parser.specs.code.Reading.{is_filled, BodyItems, Inner, named_bar, capture, note, neg, worded, operator, keys_operator, dotted, keyed, filtered, bracketed, step, steps, start_step, query_of, tree_expr, applied, asked_expr, named_expr, expr_of, found_expr, value_of, more_exprs_of, exprs_of, right, tested, called, referred, ruled, judged, headed, led_by_name, cond_of, cond_part, ors, disj_of, disjs, conds_of, opt_conds, guarded_part, kinds_part, full_part, let_of, body_items, body_end, body_of, inners}
+use Rattle.guard_parser.specs.code.FileReading.{FileItems, names, params, head, rule_of, file_items, contents}
 use Rattle.literal_parser.proofs.Steps.{opens_sound, takes_sound, has_sound, choose_sound, pair_sound, next_sound, third_sound}
 use Rattle.literal_parser.proofs.Combine.{Holds, Sound, done, failed, holds_then, holds_so, holds_if}
 use Rattle.guard_parser.proofs.Facts.{literal_range, literal_plain, literal_constant, literal_applied, literal_named, literal_other, literal_word, applied_not, applied_other, led_by_start, led_by_next, led_by_third, unled_next, unled_third, capture_bar, capture_name}
-use Rattle.guard_parser.proofs.Rooms.{bodied_sound}
+use Rattle.part_parser.proofs.Rooms.{bodied_sound}
 
 module _ (s : ℕ → Lexeme) where
   -- ---- what does not recurse

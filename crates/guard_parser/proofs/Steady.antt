@@ -9,7 +9,8 @@ use Rattle.literal_parser.specs.Lexemes.{Lexeme}
 use Rattle.literal_parser.specs.Forms.{form, is_name, is_rule_name, is_any_name, is_type_name, is_var, is_index, is_note, is_lbrace, is_rbrace, is_lparen, is_rparen, is_lbracket, is_rbracket, is_comma, is_bar, is_dot, is_star, is_assign, is_equality, is_sign, is_let, is_rule, is_when, is_some_word, is_or, is_neg, is_keys, is_this, is_in, is_operator_word, is_key, is_first_key, is_start, is_plain, is_constant, is_function_word, begins_step, begins_cond, begins_part, leads, opens_range, text_of, named_of, index_of, operator_of, sign_of, is_binary}
 use Rattle.literal_parser.specs.States.{State}
 use Rattle.literal_parser.specs.code.Parser.{Parser, stop, choose}
-use Rattle.guard_parser.specs.code.Reading.{BodyItems, Inner, is_filled, named_bar, capture, note, neg, worded, operator, keys_operator, names, params, dotted, keyed, filtered, bracketed, step, steps, start_step, query_of, tree_expr, applied, asked_expr, named_expr, expr_of, found_expr, value_of, more_exprs_of, exprs_of, right, tested, called, referred, ruled, judged, headed, led_by_name, cond_of, cond_part, ors, disj_of, disjs, conds_of, opt_conds, guarded_part, kinds_part, bodied, full_part, let_of, body_items, body_end, body_of, head, rule_of, file_items, contents, numbered}
+use Rattle.part_parser.specs.code.Reading.{BodyItems, Inner, is_filled, named_bar, capture, note, neg, worded, operator, keys_operator, dotted, keyed, filtered, bracketed, step, steps, start_step, query_of, tree_expr, applied, asked_expr, named_expr, expr_of, found_expr, value_of, more_exprs_of, exprs_of, right, tested, called, referred, ruled, judged, headed, led_by_name, cond_of, cond_part, ors, disj_of, disjs, conds_of, opt_conds, guarded_part, kinds_part, bodied, full_part, let_of, body_items, body_end, body_of, numbered}
+use Rattle.guard_parser.specs.code.FileReading.{names, params, head, rule_of, file_items, contents}
 use Rattle.literal_parser.proofs.Steady.{HasRoom, fewer, IsNumbered, Steady, AreSteady, steady_then, steady_if, pure_steady, stop_steady, opens_steady, takes_steady, has_steady, choose_steady, pair_steady, next_steady, third_steady}
 
 module _ (s : ℕ → Lexeme) (size : ℕ) (ends : form (s size) ≡ 0) where

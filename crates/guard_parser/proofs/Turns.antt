@@ -5,8 +5,8 @@ use Rattle.guard_syntax.specs.code.Seen.{prepend}
 use Rattle.guard_syntax.specs.Named.{Named}
 use Rattle.literal_parser.specs.States.{State}
 use Rattle.literal_parser.specs.code.Parser.{Outcome, Read, Fail, Parser, and_then, pure}
-use Rattle.guard_parser.specs.code.Reading as spec
-use Rattle.guard_parser.proofs.CodeSteps.{prepend-push, no_turns}
+use Rattle.guard_parser.specs.code.FileReading as spec
+use Rattle.part_parser.proofs.CodeSteps.{prepend-push, no_turns}
 use Rattle.guard_parser.specs.code.FileReads.{put, before_items}
 
 pub put_all : (names : List Named) → prepend put names [] ≡ names

@@ -1,7 +1,4 @@
 -- What serves the code and its proofs alone: nobody has to believe it.
-pub mod Adding
 pub mod Depth
+pub mod FileReading
 pub mod FileReads
-pub mod GrammarReads
-pub mod Leads
-pub mod Reading

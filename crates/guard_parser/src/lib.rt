@@ -1,16 +1,10 @@
 //! The syntax of a rule file: its tokens are read into the types of a rule file, or the first token is named with which
-//! no rule file goes on. The crate stands on the tokens of a text and the literals among them, and on the types of
-//! the syntax, and knows no meaning of rules.
+//! no rule file goes on. The crate stands on the tokens of a text and the parts and literals among them, and on the
+//! types of the syntax, and knows no meaning of rules.
 #![tactic(auto)]
 
-mod items;
-mod lead;
-mod leaf_rules;
 mod nest;
-mod read;
-mod read_condition;
 mod read_file;
-mod read_query;
 mod refusal;
 mod syntax;
 

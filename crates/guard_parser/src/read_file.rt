@@ -4,15 +4,21 @@ ghost use Rattle.guard_syntax.specs.code.Seen.{see_rule};
 ghost use Rattle.literal_parser.specs.code.Reads.{Reads, state_of};
 ghost use Rattle.guard_parser.specs.code.FileReads.{see_head, see_file_items, closed_names_at, params_at, head_at, rule_at, items_at, whole_file_at};
 
-use crate::items::{FileItems, add};
-use crate::read::{body, disj, let_of};
-use crate::read_condition::opt_conds;
-use guard_syntax::{Conds, Name, Names, Rule};
+use guard_syntax::{Conds, Disj, Let, Name, Names, Rule};
 use literal_parser::{Cursor, Halt, TokenTest, Tokens};
+use part_parser::{add, body, disj, let_of, opt_conds};
 use std::alloc::Global;
 
+/// The lets, the rules and the parts of a file.
+#[derive(Drop)]
+pub(crate) struct FileItems {
+    pub(crate) lets: Vec<Let>,
+    pub(crate) rules: Vec<Rule>,
+    pub(crate) loose: Vec<Disj>,
+}
+
 /// The parameters of a rule.
-#[tactic(auto, unfolding(crate::specs::code::Reading::params))]
+#[tactic(auto, unfolding(crate::specs::code::FileReading::params))]
 fn params(alloc: Global, tokens: Tokens<'_>, cursor: &mut Cursor) -> Result<Vec<Name>, Halt>
     ensures { Reads (λ v. v.items) (params_at tokens.entry (state_of cursor.old) cursor.old.seen) result cursor.new }
 {
@@ -23,7 +29,7 @@ fn params(alloc: Global, tokens: Tokens<'_>, cursor: &mut Cursor) -> Result<Vec<
 }
 
 /// One name or more, up to their parenthesis.
-#[tactic(auto, unfolding(crate::specs::code::Reading::names, literal_parser::specs::code::Parser::choose))]
+#[tactic(auto, unfolding(crate::specs::code::FileReading::names, literal_parser::specs::code::Parser::choose))]
 fn add_names(
     alloc: Global,
     tokens: Tokens<'_>,
@@ -49,7 +55,7 @@ fn add_names(
 }
 
 /// The parameters of a rule, or its conditions.
-#[tactic(auto, unfolding(crate::specs::code::Reading::head, literal_parser::specs::code::Parser::choose))]
+#[tactic(auto, unfolding(crate::specs::code::FileReading::head, literal_parser::specs::code::Parser::choose))]
 fn head(
     alloc: Global,
     tokens: Tokens<'_>,
@@ -68,7 +74,7 @@ fn head(
 }
 
 /// A rule.
-#[tactic(auto, unfolding(crate::specs::code::Reading::rule_of))]
+#[tactic(auto, unfolding(crate::specs::code::FileReading::rule_of))]
 fn rule(alloc: Global, tokens: Tokens<'_>, cursor: &mut Cursor, depth: usize) -> Result<Rule, Halt>
     requires room { depth ≤ 128 }
     ensures { Reads see_rule (rule_at tokens.entry depth (state_of cursor.old) cursor.old.seen) result cursor.new }
@@ -88,7 +94,7 @@ fn rule(alloc: Global, tokens: Tokens<'_>, cursor: &mut Cursor, depth: usize) ->
 }
 
 /// The lets, the rules and the parts of a file, up to what begins none.
-#[tactic(auto, unfolding(crate::specs::code::Reading::file_items, literal_parser::specs::code::Parser::choose))]
+#[tactic(auto, unfolding(crate::specs::code::FileReading::file_items, literal_parser::specs::code::Parser::choose))]
 fn add_items(
     alloc: Global,
     tokens: Tokens<'_>,
@@ -120,7 +126,7 @@ fn add_items(
 }
 
 /// The contents of a file, with its site before them and nothing behind them.
-#[tactic(auto, unfolding(crate::specs::code::Reading::whole_file, crate::specs::code::Reading::contents, literal_parser::specs::code::Parser::choose))]
+#[tactic(auto, unfolding(crate::specs::code::FileReading::whole_file, crate::specs::code::FileReading::contents, literal_parser::specs::code::Parser::choose))]
 pub(crate) fn whole_file(
     alloc: Global,
     tokens: Tokens<'_>,

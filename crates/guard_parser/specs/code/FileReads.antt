@@ -5,12 +5,12 @@ use Rattle.guard_syntax.specs.declared.syntax.Conds.{Conds}
 use Rattle.guard_syntax.specs.Syntax as sx
 use Rattle.guard_syntax.specs.code.Seen.{prepend, let_list, disj_list, see_let, see_disj, see_rule, see_opt_conds}
 use Rattle.literal_parser.specs.declared.token_cursor.Tokens.{Tokens}
-use Rattle.guard_parser.specs.declared.items.FileItems.{FileItems}
+use Rattle.guard_parser.specs.declared.read_file.FileItems.{FileItems}
 use Rattle.literal_parser.specs.code.Parser.{Outcome, Parser, and_then, ◌>>=◌, ◌>>◌, pure, has, takes}
 use Rattle.literal_parser.specs.Forms.{is_name, is_rparen, named_of}
-use Rattle.guard_parser.specs.code.Reading as spec
+use Rattle.guard_parser.specs.code.FileReading as spec
 use Rattle.literal_parser.specs.code.Reads.{source}
-use Rattle.guard_parser.specs.code.GrammarReads.{inner}
+use Rattle.part_parser.specs.code.GrammarReads.{inner}
 
 -- ---- what is read, as it is seen
 

@@ -4,11 +4,11 @@ use Rattle.guard_syntax.specs.Syntax.{Rule}
 use Rattle.guard_syntax.specs.code.Seen.{let_list, disj_list, see_let, see_rule, see_disj}
 use Rattle.literal_parser.specs.code.Parser.{Read}
 use Rattle.literal_parser.specs.Forms.{is_let, is_rule, begins_part}
-use Rattle.guard_parser.specs.code.Reading.{file_items}
+use Rattle.guard_parser.specs.code.FileReading.{file_items}
 use Rattle.literal_parser.specs.code.Reads.{source, state_of}
-use Rattle.guard_parser.specs.code.GrammarReads.{let_at, disj_at}
+use Rattle.part_parser.specs.code.GrammarReads.{let_at, disj_at}
 use Rattle.guard_parser.specs.code.FileReads.{before_items, items_at, rule_at, see_file_items}
-use Rattle.guard_parser.proofs.CodeSteps.{then_read, then_fail, saw, halted_adding, taken, one_more, no_more}
+use Rattle.part_parser.proofs.CodeSteps.{then_read, then_fail, saw, halted_adding, taken, one_more, no_more}
 use Rattle.guard_parser.proofs.Turns.{file_begun, let_turn, rule_turn, part_turn}
 use Rattle.guard_parser.proofs.read_file.add_items.Goals as goal
 

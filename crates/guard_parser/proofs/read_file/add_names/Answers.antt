@@ -3,9 +3,9 @@ use Rattle.guard_syntax.specs.Named.{Named}
 use Rattle.literal_parser.specs.Forms.{is_comma, is_name, is_rparen, named_of}
 use Rattle.literal_parser.specs.code.Parser.{One, Read, Fail, takes, has}
 use Rattle.literal_parser.specs.code.Reads.{source, state_of}
-use Rattle.guard_parser.specs.code.Reading.{names}
+use Rattle.guard_parser.specs.code.FileReading.{names}
 use Rattle.guard_parser.specs.code.FileReads.{put, names_at, closed_names, closed_names_at}
-use Rattle.guard_parser.proofs.CodeSteps.{then_read, then_fail, saw, handed, halted_by, halted_adding, taken, closed_by, both, some_of, list_opened, item_failed, turns_spent, went_on}
+use Rattle.part_parser.proofs.CodeSteps.{then_read, then_fail, saw, handed, halted_by, halted_adding, taken, closed_by, both, some_of, list_opened, item_failed, turns_spent, went_on}
 use Rattle.guard_parser.proofs.Turns.{put_all}
 use Rattle.guard_parser.proofs.read_file.add_names.Goals as goal
 

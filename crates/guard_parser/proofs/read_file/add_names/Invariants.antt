@@ -2,9 +2,9 @@ use Rattle.std.proofs.Common.{◌≡◌, ℕ}
 use Rattle.literal_parser.specs.Forms.{is_name, named_of}
 use Rattle.literal_parser.specs.code.Parser.{has}
 use Rattle.literal_parser.specs.code.Reads.{source, state_of}
-use Rattle.guard_parser.specs.code.GrammarReads.{listed}
+use Rattle.part_parser.specs.code.GrammarReads.{listed}
 use Rattle.guard_parser.specs.code.FileReads.{put, names_at, closed_names, closed_names_at}
-use Rattle.guard_parser.proofs.CodeSteps.{some_of}
+use Rattle.part_parser.proofs.CodeSteps.{some_of}
 use Rattle.guard_parser.proofs.read_file.add_names.Given as goal
 
 abbrev pub invariant-items : goal.invariant-items

@@ -3,8 +3,8 @@ use Rattle.guard_syntax.specs.Syntax as sx
 use Rattle.guard_syntax.specs.code.Seen.{see_opt_conds}
 use Rattle.literal_parser.specs.Forms.{is_lparen}
 use Rattle.literal_parser.specs.code.Reads.{source, state_of}
-use Rattle.guard_parser.specs.code.Reading.{head}
-use Rattle.guard_parser.proofs.CodeSteps.{then_read, seen_as, saw, with_second}
+use Rattle.guard_parser.specs.code.FileReading.{head}
+use Rattle.part_parser.proofs.CodeSteps.{then_read, seen_as, saw, with_second}
 use Rattle.guard_parser.proofs.read_file.head.Goals as goal
 
 pub returns-then-sees : goal.returns-then-sees

@@ -1,6 +1,6 @@
 use Rattle.std.proofs.Common.{refl}
-use Rattle.guard_parser.specs.code.Reading.{rule_of}
-use Rattle.guard_parser.proofs.CodeSteps.{then_read}
+use Rattle.guard_parser.specs.code.FileReading.{rule_of}
+use Rattle.part_parser.proofs.CodeSteps.{then_read}
 use Rattle.guard_parser.proofs.read_file.rule.Goals as goal
 
 pub returns : goal.returns

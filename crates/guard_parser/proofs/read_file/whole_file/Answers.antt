@@ -1,8 +1,8 @@
 use Rattle.std.proofs.Common.{refl}
 use Rattle.literal_parser.specs.Forms.{is_end}
 use Rattle.literal_parser.specs.code.Reads.{source, state_of}
-use Rattle.guard_parser.specs.code.Reading.{whole_file, contents}
-use Rattle.guard_parser.proofs.CodeSteps.{then_read, saw}
+use Rattle.guard_parser.specs.code.FileReading.{whole_file, contents}
+use Rattle.part_parser.proofs.CodeSteps.{then_read, saw}
 use Rattle.guard_parser.proofs.read_file.whole_file.Goals as goal
 
 pub returns-then-sees_end : goal.returns-then-sees_end
