@@ -1,2 +1,0 @@
-mod BesideTables
-mod RuleTables

@@ -1,3 +1,2 @@
 -- What serves the code and its proofs alone: nobody has to believe it.
-pub mod Beside
 pub mod Engines

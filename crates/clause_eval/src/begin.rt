@@ -9,10 +9,8 @@ ghost use Rattle.clause_eval.specs.code.Engines.{see_engine};
 
 use crate::engine::Engine;
 use doc_values::Doc;
-use engine_parts::frame_lines::FrameLines;
-use engine_parts::site_lines::SiteLines;
-use evidence_lines::{Evidence, Version};
-use indexmap::IndexMap;
+use engine_lines::EngineLines;
+use evidence_lines::Evidence;
 use rule_names::RuleFile;
 use scope_frames::Frames;
 use std::alloc::Global;
@@ -33,54 +31,39 @@ impl<'t, 's> Engine<'t, 's> {
         ensures template { (see_engine result).known.template ≡ doc.entry.now }
         ensures whole { IsWhole (see_engine result) }
         ensures rests { Rests (see_engine result) }
-        ensures fresh { result.spent ≡ false }
+        ensures fresh { result.lines.spent ≡ false }
     {
         Engine {
-            alloc,
-            file,
-            book,
-            frames: Frames::new(alloc, file),
-            store: Store::new(alloc, doc, file),
-            evidence: Evidence::new(alloc, Version::Two),
-            framed: Vec::new(alloc),
-            parts: FrameLines::new(alloc),
-            beside: IndexMap::new(alloc),
-            rules: SiteLines::new(alloc, 0),
-            spent: false,
+            lines: EngineLines::new(alloc, file, doc, book),
         }
     }
 
     /// The frames that were entered.
     pub fn frames(&self) -> &Frames<'t>
-        ensures { result.now ≡ self.entry.now.frames }
+        ensures { result.now ≡ self.entry.now.lines.frames }
     {
-        &self.frames
+        self.lines.frames()
     }
 
     /// The template, the literals of the file, and the trees that calls have made.
     pub fn store(&self) -> &Store<'t, 's>
-        ensures { result.now ≡ self.entry.now.store }
+        ensures { result.now ≡ self.entry.now.lines.store }
     {
-        &self.store
+        self.lines.store()
     }
 
     /// The lines so far: each follows.
     pub fn evidence(&self) -> &Evidence
-        ensures { result.now ≡ self.entry.now.evidence }
+        ensures { result.now ≡ self.entry.now.lines.evidence }
     {
-        &self.evidence
+        self.lines.evidence()
     }
 
     /// The evidence and the store. All that served to find lines again is dropped.
     pub fn finish(self) -> (Evidence, Store<'t, 's>)
-        ensures evidence { result.0 ≡ self.entry.evidence }
-        ensures store { result.1 ≡ self.entry.store }
+        ensures evidence { result.0 ≡ self.entry.lines.evidence }
+        ensures store { result.1 ≡ self.entry.lines.store }
     {
-        let Engine {
-            evidence,
-            store,
-            ..
-        } = self;
-        (evidence, store)
+        self.lines.finish()
     }
 }

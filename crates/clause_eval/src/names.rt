@@ -5,85 +5,92 @@ ghost use Rattle.guard_syntax.specs.code.Seen.{see_expr};
 ghost use Rattle.rule_names.specs.code.Files.{file_of};
 ghost use Rattle.engine_states.specs.code.Answers.{AnswersArgument, AnswersCapture, AnswersPiece, AnswersVariable, IsArgumentOf, IsCapturing, IsLetValue, IsParameter, IsUse, argument_bound};
 ghost use Rattle.engine_states.specs.code.States.{IsWhole};
-ghost use Rattle.clause_eval.specs.code.Engines.{see_engine};
+ghost use Rattle.engine_lines.specs.code.Lines.{see_lines};
 
-use crate::engine::Engine;
+use crate::rows;
+use engine_lines::EngineLines;
 use guard_syntax::{Expr, Part};
 use rule_names::{Bind, Piece, RuleFile};
 use scope_frames::Frame;
 use std::alloc::AllocError;
 
-impl<'t, 's> Engine<'t, 's> {
-    /// The line of what the variable means that is used at a site.
-    #[cycle(evaluation)]
-    pub(crate) fn variable(&mut self, frame: u64, site: u32) -> Result<u64, AllocError>
-        requires whole { IsWhole (see_engine self.old) }
-        requires used { IsUse (see_engine self.old) frame site }
-        ensures { IfOk result (λ number. AnswersVariable (see_engine self.old) (see_engine self.new) frame site number) }
-    {
-        let Some(bind) = self.file.bind(site) else {
-            unreachable!()
-        };
-        let cell = self.frames.lookup(frame, site);
-        match bind {
-            Bind::Value { site: value, .. } => self.value(cell.frame, value),
-            Bind::Capture { step, .. } => self.capture(cell.frame, step),
-            Bind::Param { index, .. } => self.argument(cell.frame, index),
-        }
+/// The line of what the variable means that is used at a site.
+#[cycle(evaluation)]
+pub(crate) fn variable(
+    engine: &mut EngineLines<'_, '_>,
+    frame: u64,
+    site: u32,
+) -> Result<u64, AllocError>
+    requires whole { IsWhole (see_lines engine.old) }
+    requires used { IsUse (see_lines engine.old) frame site }
+    ensures { IfOk result (λ number. AnswersVariable (see_lines engine.old) (see_lines engine.new) frame site number) }
+{
+    let Some(bind) = engine.file.bind(site) else {
+        unreachable!()
+    };
+    let cell = engine.frames.lookup(frame, site);
+    match bind {
+        Bind::Value { site: value, .. } => self::value(engine, cell.frame, value),
+        Bind::Capture { step, .. } => capture(engine, cell.frame, step),
+        Bind::Param { index, .. } => argument(engine, cell.frame, index),
     }
+}
 
-    /// The line of the expression of a let, by its site.
-    #[cycle(evaluation)]
-    pub(crate) fn value(&mut self, frame: u64, site: u32) -> Result<u64, AllocError>
-        requires whole { IsWhole (see_engine self.old) }
-        requires stands { IsLetValue (see_engine self.old) frame site }
-        ensures { IfOk result (λ number. AnswersPiece (see_engine self.old) (see_engine self.new) frame site number) }
-    {
-        let file = self.file;
-        let Some(piece) = file.find(site) else {
-            unreachable!()
-        };
-        match piece {
-            Piece::Expr(expr) => self.expression(frame, expr),
-            Piece::Query(query) => self.query(frame, query),
-            _ => unreachable!(),
-        }
+/// The line of the expression of a let, by its site.
+#[cycle(evaluation)]
+pub(crate) fn value(
+    engine: &mut EngineLines<'_, '_>,
+    frame: u64,
+    site: u32,
+) -> Result<u64, AllocError>
+    requires whole { IsWhole (see_lines engine.old) }
+    requires stands { IsLetValue (see_lines engine.old) frame site }
+    ensures { IfOk result (λ number. AnswersPiece (see_lines engine.old) (see_lines engine.new) frame site number) }
+{
+    let file = engine.file;
+    let Some(piece) = file.find(site) else {
+        unreachable!()
+    };
+    match piece {
+        Piece::Expr(expr) => rows::expression(engine, frame, expr),
+        Piece::Query(query) => rows::query(engine, frame, query),
+        _ => unreachable!(),
     }
+}
 
-    /// The line of what a step captures, by its site.
-    #[cycle(evaluation)]
-    fn capture(&mut self, frame: u64, site: u32) -> Result<u64, AllocError>
-        requires whole { IsWhole (see_engine self.old) }
-        requires stands { IsCapturing (see_engine self.old) frame site }
-        ensures { IfOk result (λ number. AnswersCapture (see_engine self.old) (see_engine self.new) frame site number) }
-    {
-        if let Some(line) = self.found_beside(frame, site) {
-            return Ok(line);
-        }
-        let file = self.file;
-        let Some(piece) = file.find(site) else {
-            unreachable!()
-        };
-        match piece {
-            Piece::Step { query, index } => {
-                let line = self.steps(frame, query, index)?;
-                self.add_capture(frame, site, line)
-            }
-            _ => unreachable!(),
-        }
+/// The line of what a step captures, by its site.
+#[cycle(evaluation)]
+fn capture(engine: &mut EngineLines<'_, '_>, frame: u64, site: u32) -> Result<u64, AllocError>
+    requires whole { IsWhole (see_lines engine.old) }
+    requires stands { IsCapturing (see_lines engine.old) frame site }
+    ensures { IfOk result (λ number. AnswersCapture (see_lines engine.old) (see_lines engine.new) frame site number) }
+{
+    if let Some(line) = engine.found_beside(frame, site) {
+        return Ok(line);
     }
+    let file = engine.file;
+    let Some(piece) = file.find(site) else {
+        unreachable!()
+    };
+    match piece {
+        Piece::Step { query, index } => {
+            let line = rows::steps(engine, frame, query, index)?;
+            engine.add_capture(frame, site, line)
+        }
+        _ => unreachable!(),
+    }
+}
 
-    /// The line of the argument of an index, in the frame in which the call stands.
-    #[cycle(evaluation)]
-    fn argument(&mut self, frame: u64, index: u32) -> Result<u64, AllocError>
-        requires whole { IsWhole (see_engine self.old) }
-        requires stands { IsParameter (see_engine self.old) frame index }
-        ensures { IfOk result (λ number. AnswersArgument (see_engine self.old) (see_engine self.new) frame (argument_bound (see_engine self.old) frame index) index number) }
-    {
-        let entered = self.frames.entered.as_slice();
-        let (caller, expr) = argument_given(self.file, entered, frame, index);
-        self.expression(caller, expr)
-    }
+/// The line of the argument of an index, in the frame in which the call stands.
+#[cycle(evaluation)]
+fn argument(engine: &mut EngineLines<'_, '_>, frame: u64, index: u32) -> Result<u64, AllocError>
+    requires whole { IsWhole (see_lines engine.old) }
+    requires stands { IsParameter (see_lines engine.old) frame index }
+    ensures { IfOk result (λ number. AnswersArgument (see_lines engine.old) (see_lines engine.new) frame (argument_bound (see_lines engine.old) frame index) index number) }
+{
+    let entered = engine.frames.entered.as_slice();
+    let (caller, expr) = argument_given(engine.file, entered, frame, index);
+    rows::expression(engine, caller, expr)
 }
 
 /// The argument of an index of the call that a frame is of, behind the frame in which the call stands.

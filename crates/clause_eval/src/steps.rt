@@ -1,5 +1,5 @@
 //! Lines of the steps of queries.
-ghost use Rattle.std.specs.Prelude.{◌≡◌, ◌<◌, ℕ, length, IfOk, None, true};
+ghost use Rattle.std.specs.Prelude.{◌≡◌, ◌<◌, length, IfOk, None, true};
 ghost use Rattle.std.specs.List.{list_all};
 ghost use Rattle.guard_syntax.specs.code.Seen.{see_conds, see_query};
 ghost use Rattle.guard_syntax.specs.declared.syntax.Query.{out-Query};
@@ -9,112 +9,104 @@ ghost use Rattle.rule_meaning.specs.StoreModel.{is_known, is_known_ref};
 ghost use Rattle.value_store.specs.code.Stores.{see_store};
 ghost use Rattle.engine_states.specs.code.Answers.{AnswersCandidates, AnswersFilter, AnswersStepBehind, GivesBeforeSite, GivesStepBefore, IsFilterWith, LacksStep, StandsUpTo};
 ghost use Rattle.engine_states.specs.code.States.{IsWhole};
-ghost use Rattle.clause_eval.specs.code.Engines.{see_engine};
+ghost use Rattle.engine_lines.specs.code.Lines.{see_lines};
 
-use crate::engine::Engine;
-use crate::said::Judged;
+use crate::names::variable;
+use crate::rows::expression;
+use crate::verdicts::conditions;
+use engine_lines::{EngineLines, Judged, SitedStep};
 use evidence_lines::{LineKind, Rows};
 use guard_syntax::{Conds, Query, Ref, StepForm};
 use query_steps::{StepPlace, placed_candidates};
 use std::alloc::{AllocError, Global};
 use value_compare::Store;
 
-/// A step in a frame: its site, and where it stands in its query.
-#[derive(Clone, Copy)]
-pub(crate) struct SitedStep<'t> {
-    pub frame: u64,
-    pub site: u32,
-    pub place: StepPlace<'t>,
+/// The line of a step that has none yet, behind that of the step before it.
+#[cycle(evaluation)]
+pub(crate) fn step<'t>(
+    engine: &mut EngineLines<'t, '_>,
+    frame: u64,
+    query: &'t Query,
+    index: usize,
+    before: Option<u64>,
+) -> Result<u64, AllocError>
+    requires whole { IsWhole (see_lines engine.old) }
+    requires stands { StandsUpTo (see_lines engine.old) frame (see_query query.now) index }
+    requires index { index < length (out-Query query.now).steps.items }
+    requires new { LacksStep (see_lines engine.old) frame (see_query query.now) index }
+    requires before { GivesStepBefore (see_lines engine.old) frame (see_query query.now) index before }
+    ensures { IfOk result (λ number. AnswersStepBehind (see_lines engine.old) (see_lines engine.new) frame (see_query query.now) index before number) }
+{
+    let step = &query.steps[index];
+    let steps = query.steps.as_slice();
+    let sited = SitedStep {
+        frame,
+        site: step.site,
+        place: StepPlace { steps, index },
+    };
+    match &step.form {
+        StepForm::Filter(_, conds) => match before {
+            Some(before) => filter(engine, sited, conds, before),
+            None => unreachable!(),
+        },
+        StepForm::Keys { right, .. } => {
+            let further = expression(engine, frame, right)?;
+            engine.add_step(LineKind::Keys, sited, before, Some(further))
+        }
+        StepForm::Var(_) => {
+            let further = variable(engine, frame, step.site)?;
+            engine.add_step(LineKind::Step, sited, before, Some(further))
+        }
+        StepForm::Splice(_) => {
+            let further = variable(engine, frame, step.site)?;
+            engine.add_step(LineKind::Step, sited, before, Some(further))
+        }
+        _ => engine.add_step(LineKind::Step, sited, before, None),
+    }
 }
 
-impl<'t, 's> Engine<'t, 's> {
-    /// The line of a step that has none yet, behind that of the step before it.
-    #[cycle(evaluation)]
-    pub(crate) fn step(
-        &mut self,
-        frame: u64,
-        query: &'t Query,
-        index: usize,
-        before: Option<u64>,
-    ) -> Result<u64, AllocError>
-        requires whole { IsWhole (see_engine self.old) }
-        requires stands { StandsUpTo (see_engine self.old) frame (see_query query.now) index }
-        requires index { index < length (out-Query query.now).steps.items }
-        requires new { LacksStep (see_engine self.old) frame (see_query query.now) index }
-        requires before { GivesStepBefore (see_engine self.old) frame (see_query query.now) index before }
-        ensures { IfOk result (λ number. AnswersStepBehind (see_engine self.old) (see_engine self.new) frame (see_query query.now) index before number) }
-    {
-        let step = &query.steps[index];
-        let steps = query.steps.as_slice();
-        let sited = SitedStep {
-            frame,
-            site: step.site,
-            place: StepPlace { steps, index },
-        };
-        match &step.form {
-            StepForm::Filter(_, conds) => match before {
-                Some(before) => self.filter(sited, conds, before),
-                None => unreachable!(),
-            },
-            StepForm::Keys { right, .. } => {
-                let further = self.expression(frame, right)?;
-                self.add_step(LineKind::Keys, sited, before, Some(further))
-            }
-            StepForm::Var(_) => {
-                let further = self.variable(frame, step.site)?;
-                self.add_step(LineKind::Step, sited, before, Some(further))
-            }
-            StepForm::Splice(_) => {
-                let further = self.variable(frame, step.site)?;
-                self.add_step(LineKind::Step, sited, before, Some(further))
-            }
-            _ => self.add_step(LineKind::Step, sited, before, None),
-        }
-    }
+/// The line of a filter: its conditions are judged for each candidate in a frame of its own.
+#[cycle(evaluation)]
+fn filter<'t>(
+    engine: &mut EngineLines<'t, '_>,
+    step: SitedStep<'t>,
+    conds: &'t Conds,
+    before: u64,
+) -> Result<u64, AllocError>
+    requires whole { IsWhole (see_lines engine.old) }
+    requires stands { IsFilterWith (see_lines engine.old) step.frame step.site (see_conds conds.now) }
+    requires new { (see_lines engine.old).parts step.frame step.site ≡ None }
+    requires before { GivesBeforeSite (see_lines engine.old) step.frame step.site before }
+    requires place { step_at (see_lines engine.old).known.file step.site ≡ see_place step.place }
+    ensures { IfOk result (λ number. AnswersFilter (see_lines engine.old) (see_lines engine.new) step.entry.frame step.entry.site before number) }
+{
+    let said = engine.rows_said(before);
+    let tried = candidates(engine.alloc, step.place, said, &engine.store)?;
+    let judged = judge_candidates(engine, step.frame, step.site, conds, &tried)?;
+    engine.add_filter(step, before, judged)
+}
 
-    /// The line of a filter: its conditions are judged for each candidate in a frame of its own.
-    #[cycle(evaluation)]
-    fn filter(
-        &mut self,
-        step: SitedStep<'t>,
-        conds: &'t Conds,
-        before: u64,
-    ) -> Result<u64, AllocError>
-        requires whole { IsWhole (see_engine self.old) }
-        requires stands { IsFilterWith (see_engine self.old) step.frame step.site (see_conds conds.now) }
-        requires new { (see_engine self.old).parts step.frame step.site ≡ None }
-        requires before { GivesBeforeSite (see_engine self.old) step.frame step.site before }
-        requires place { step_at (see_engine self.old).known.file step.site ≡ see_place step.place }
-        ensures { IfOk result (λ number. AnswersFilter (see_engine self.old) (see_engine self.new) step.entry.frame step.entry.site before number) }
-    {
-        let said = self.rows_said(before);
-        let tried = candidates(self.alloc, step.place, said, &self.store)?;
-        let judged = self.judge_candidates(step.frame, step.site, conds, &tried)?;
-        self.add_filter(step, before, judged)
+/// The lines of the conditions of a filter for its candidates, each in a frame of its own.
+#[cycle(evaluation)]
+fn judge_candidates<'t>(
+    engine: &mut EngineLines<'t, '_>,
+    frame: u64,
+    site: u32,
+    conds: &'t Conds,
+    tried: &[Ref],
+) -> Result<Judged, AllocError>
+    requires whole { IsWhole (see_lines engine.old) }
+    requires stands { IsFilterWith (see_lines engine.old) frame site (see_conds conds.now) }
+    requires known { list_all (is_known_ref (see_lines engine.old).known) tried.now ≡ true }
+    ensures { IfOk result (λ judged. AnswersCandidates (see_lines engine.old) (see_lines engine.new) frame site (see_conds conds.now) tried.now judged.lines.items judged.verdicts.items) }
+{
+    let mut judged = Judged::new(engine.alloc);
+    for candidate in tried {
+        let inner = engine.enter_scope(Some(frame), site, *candidate)?;
+        let said = conditions(engine, inner, conds)?;
+        judged.note(said)?;
     }
-
-    /// The lines of the conditions of a filter for its candidates, each in a frame of its own.
-    #[cycle(evaluation)]
-    fn judge_candidates(
-        &mut self,
-        frame: u64,
-        site: u32,
-        conds: &'t Conds,
-        tried: &[Ref],
-    ) -> Result<Judged, AllocError>
-        requires whole { IsWhole (see_engine self.old) }
-        requires stands { IsFilterWith (see_engine self.old) frame site (see_conds conds.now) }
-        requires known { list_all (is_known_ref (see_engine self.old).known) tried.now ≡ true }
-        ensures { IfOk result (λ judged. AnswersCandidates (see_engine self.old) (see_engine self.new) frame site (see_conds conds.now) tried.now judged.lines.items judged.verdicts.items) }
-    {
-        let mut judged = Judged::new(self.alloc);
-        for candidate in tried {
-            let inner = self.enter_scope(Some(frame), site, *candidate)?;
-            let said = self.conditions(inner, conds)?;
-            judged.note(said)?;
-        }
-        Ok(judged)
-    }
+    Ok(judged)
 }
 
 /// The candidates of a filter, by its place and the rows that the line before it says.

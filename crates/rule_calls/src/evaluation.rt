@@ -59,11 +59,7 @@ pub fn evaluate<'t, 's>(
     let mut engine = Engine::new(alloc, file, doc, book);
     judge_file(&mut engine)?;
     let verdicts = reported_verdicts(alloc, &engine)?;
-    let Engine {
-        evidence,
-        store,
-        ..
-    } = engine;
+    let (evidence, store) = engine.finish();
     Ok(Evaluation {
         evidence,
         store,
@@ -77,7 +73,7 @@ fn judge_file(engine: &mut Engine<'_, '_>) -> Result<(), AllocError>
     ensures judged { OnOk result (IsJudgedWhole (see_engine engine.new)) }
     ensures grows { OnOk result (Grows (see_engine engine.old) (see_engine engine.new)) }
 {
-    let ranked = rules_by_depth(engine.alloc, engine.file)?;
+    let ranked = rules_by_depth(engine.lines.alloc, engine.lines.file)?;
     judge_rules(engine, &ranked)?;
     judge_outside(engine)
 }
@@ -101,7 +97,7 @@ fn judge_outside(engine: &mut Engine<'_, '_>) -> Result<(), AllocError>
     ensures judged { OnOk result (IsJudgedWhole (see_engine engine.new)) }
     ensures grows { OnOk result (Grows (see_engine engine.old) (see_engine engine.new)) }
 {
-    let file = engine.file;
+    let file = engine.lines.file;
     if file.raw().loose.as_slice().is_empty() {
         return Ok(());
     }

@@ -18,7 +18,7 @@ pub(crate) fn reported_verdicts(
     ensures { IfOk result (λ verdicts. AreVerdicts (see_engine engine.now).lines (reported_sites (see_engine engine.now).known.file) verdicts.items) }
 {
     let mut verdicts = rule_verdicts(alloc, engine)?;
-    if engine.file.raw().loose.as_slice().is_empty() {
+    if engine.lines.file.raw().loose.as_slice().is_empty() {
         return Ok(verdicts);
     }
     let Some(line) = engine.found_rule(0) else {
@@ -34,7 +34,7 @@ fn rule_verdicts(alloc: Global, engine: &Engine<'_, '_>) -> Result<Vec<(u32, Ver
     ensures { IfOk result (λ verdicts. AreVerdicts (see_engine engine.now).lines (rule_sites (see_engine engine.now).known.file.rules) verdicts.items) }
 {
     let mut verdicts = Vec::new(alloc);
-    for rule in &engine.file.raw().rules {
+    for rule in &engine.lines.file.raw().rules {
         if !rule.params.as_slice().is_empty() {
             continue;
         }

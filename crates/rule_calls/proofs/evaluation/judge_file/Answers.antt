@@ -13,7 +13,7 @@ pub judge_rules-requires-clause-ranked : goal.judge_rules-requires-clause-ranked
 judge_rules-requires-clause-ranked c =
     let e = c.args.engine.now in
     subst (λ (xs : List Ranked). AreRanked (see_engine e).known.file xs) (sym c.deref.ensures.value)
-    (subst (λ (f : RuleFile). AreRanked (file_of f) c.in_ok-ranked.ranked.items) (sym e.store_over) c.in_ok-ranked.ensures)
+    (subst (λ (f : RuleFile). AreRanked (file_of f) c.in_ok-ranked.ranked.items) (sym e.lines.store_over) c.in_ok-ranked.ensures)
 
 pub returns-clause-grows : goal.returns-clause-grows
 returns-clause-grows c =

@@ -18,9 +18,9 @@ pub unreachable-requires : goal.unreachable-requires
 unreachable-requires c =
     let e = c.args.engine.now in
     let rule = see_rule c.rule-item.result in
-    let same : c.deref-rule-items.result.now ≡ e.store.file.now.raw.rules.items =
-    c.deref-rule-items.ensures.value ∙ ap (λ (raw : RawFile). raw.rules.items) c.raw.ensures ∙ sym (ap (λ (f : RuleFile). f.raw.rules.items) e.store_over) in
-    let among : Contains (file_of e.store.file.now).rules rule =
+    let same : c.deref-rule-items.result.now ≡ e.lines.store.file.now.raw.rules.items =
+    c.deref-rule-items.ensures.value ∙ ap (λ (raw : RawFile). raw.rules.items) c.raw.ensures ∙ sym (ap (λ (f : RuleFile). f.raw.rules.items) e.lines.store_over) in
+    let among : Contains (file_of e.lines.store.file.now).rules rule =
     subst (λ (rs : List RawRule). Contains (map see_rule rs) rule) same (is-among c.deref-rule-items.result.now c.loop-rule.rule-index c.rule-item.result c.loop-rule-test.true c.rule-item.is) in
     let plain = none-given rule.params c.as_slice.result.now c.is_empty.result c.as_slice.ensures c.is_empty.ensures c.if-not-is_empty.false in
     rule-there (see_engine e) c.requires rule among plain (sym c.in_default.ensures)
@@ -51,7 +51,7 @@ pub returns : goal.returns
 returns c =
     let e = c.args.engine.now in
     let s = see_engine e in
-    let same : c.deref-rule-items.result.now ≡ e.store.file.now.raw.rules.items =
-    c.deref-rule-items.ensures.value ∙ ap (λ (raw : RawFile). raw.rules.items) c.raw.ensures ∙ sym (ap (λ (f : RuleFile). f.raw.rules.items) e.store_over) in
+    let same : c.deref-rule-items.result.now ≡ e.lines.store.file.now.raw.rules.items =
+    c.deref-rule-items.ensures.value ∙ ap (λ (raw : RawFile). raw.rules.items) c.raw.ensures ∙ sym (ap (λ (f : RuleFile). f.raw.rules.items) e.lines.store_over) in
     subst (λ (rs : List RawRule). AreVerdicts s.lines (rule_sites (map see_rule rs)) c.loop-rule.verdicts.items) same
     (subst (λ (rs : List Rule). AreVerdicts s.lines (rule_sites rs) c.loop-rule.verdicts.items) (all-rules c.deref-rule-items.result.now c.loop-rule.rule-index c.loop-rule-test.false) c.loop-rule.invariant)

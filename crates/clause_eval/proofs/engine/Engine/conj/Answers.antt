@@ -8,10 +8,10 @@ conjunction_at-said-requires-clause-stands c = c.requires.stands c.if-self.false
 
 pub invariant_of-self : goal.invariant_of-self
 invariant_of-self c = record {
-  frames_over = c.conjunction_at-said.new.self.frames_over;
-  store_over = c.conjunction_at-said.new.self.store_over;
-  book_is = c.conjunction_at-said.new.self.book_is;
-  tables = c.conjunction_at-said.new.self.tables;
-  version = c.conjunction_at-said.new.self.version;
-  follows = c.conjunction_at-said.new.self.follows;
+  frames_over = c.conjunction_at-said.new.engine.frames_over;
+  store_over = c.conjunction_at-said.new.engine.store_over;
+  book_is = c.conjunction_at-said.new.engine.book_is;
+  tables = c.conjunction_at-said.new.engine.tables;
+  version = c.conjunction_at-said.new.engine.version;
+  follows = c.conjunction_at-said.new.engine.follows;
 }

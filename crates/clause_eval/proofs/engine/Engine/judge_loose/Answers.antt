@@ -8,10 +8,10 @@ judged_loose-verdict-requires-clause-loose c = c.requires.loose c.if-self.false
 
 pub invariant_of-self : goal.invariant_of-self
 invariant_of-self c = record {
-  frames_over = c.judged_loose-verdict.new.self.frames_over;
-  store_over = c.judged_loose-verdict.new.self.store_over;
-  book_is = c.judged_loose-verdict.new.self.book_is;
-  tables = c.judged_loose-verdict.new.self.tables;
-  version = c.judged_loose-verdict.new.self.version;
-  follows = c.judged_loose-verdict.new.self.follows;
+  frames_over = c.judged_loose-verdict.new.engine.frames_over;
+  store_over = c.judged_loose-verdict.new.engine.store_over;
+  book_is = c.judged_loose-verdict.new.engine.book_is;
+  tables = c.judged_loose-verdict.new.engine.tables;
+  version = c.judged_loose-verdict.new.engine.version;
+  follows = c.judged_loose-verdict.new.engine.follows;
 }

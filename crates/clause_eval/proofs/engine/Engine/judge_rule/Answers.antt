@@ -8,10 +8,10 @@ judged-verdict-requires-clause-rule c = c.requires.rule c.if-self.false
 
 pub invariant_of-self : goal.invariant_of-self
 invariant_of-self c = record {
-  frames_over = c.judged-verdict.new.self.frames_over;
-  store_over = c.judged-verdict.new.self.store_over;
-  book_is = c.judged-verdict.new.self.book_is;
-  tables = c.judged-verdict.new.self.tables;
-  version = c.judged-verdict.new.self.version;
-  follows = c.judged-verdict.new.self.follows;
+  frames_over = c.judged-verdict.new.engine.frames_over;
+  store_over = c.judged-verdict.new.engine.store_over;
+  book_is = c.judged-verdict.new.engine.book_is;
+  tables = c.judged-verdict.new.engine.tables;
+  version = c.judged-verdict.new.engine.version;
+  follows = c.judged-verdict.new.engine.follows;
 }

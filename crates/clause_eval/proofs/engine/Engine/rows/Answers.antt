@@ -8,10 +8,10 @@ value-line-requires-clause-stands c = c.requires.stands c.if-self.false
 
 pub invariant_of-self : goal.invariant_of-self
 invariant_of-self c = record {
-  frames_over = c.value-line.new.self.frames_over;
-  store_over = c.value-line.new.self.store_over;
-  book_is = c.value-line.new.self.book_is;
-  tables = c.value-line.new.self.tables;
-  version = c.value-line.new.self.version;
-  follows = c.value-line.new.self.follows;
+  frames_over = c.value-line.new.engine.frames_over;
+  store_over = c.value-line.new.engine.store_over;
+  book_is = c.value-line.new.engine.book_is;
+  tables = c.value-line.new.engine.tables;
+  version = c.value-line.new.engine.version;
+  follows = c.value-line.new.engine.follows;
 }

@@ -8,10 +8,10 @@ rule_by-verdict-requires-clause-follows c = c.requires.follows c.if-self.false
 
 pub invariant_of-self : goal.invariant_of-self
 invariant_of-self c = record {
-  frames_over = c.rule_by-verdict.new.self.frames_over;
-  store_over = c.rule_by-verdict.new.self.store_over;
-  book_is = c.rule_by-verdict.new.self.book_is;
-  tables = c.rule_by-verdict.new.self.tables;
-  version = c.rule_by-verdict.new.self.version;
-  follows = c.rule_by-verdict.new.self.follows;
+  frames_over = c.rule_by-verdict.new.engine.frames_over;
+  store_over = c.rule_by-verdict.new.engine.store_over;
+  book_is = c.rule_by-verdict.new.engine.book_is;
+  tables = c.rule_by-verdict.new.engine.tables;
+  version = c.rule_by-verdict.new.engine.version;
+  follows = c.rule_by-verdict.new.engine.follows;
 }

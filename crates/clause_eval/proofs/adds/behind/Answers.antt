@@ -1,6 +1,0 @@
-use Rattle.std.proofs.Common.{◌∙◌, ◌++◌, ◌∷◌, [], ℕ, List, ap}
-use Rattle.clause_eval.proofs.adds.behind.Goals as goal
-
-pub returns : goal.returns
-returns c =
-    c.in_ok-append.ensures.items ∙ ap (λ (ns : List ℕ). ns ++ c.args.lines.items) (c.in_ok-push.ensures.items ∙ ap (λ (ns : List ℕ). ns ++ c.args.first ∷ []) c.new-all.ensures.items)

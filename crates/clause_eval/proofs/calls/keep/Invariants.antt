@@ -1,5 +1,0 @@
-use Rattle.engine_states.proofs.KeptTrees.{KeptSoFar}
-use Rattle.clause_eval.proofs.calls.keep.Given as goal
-
-abbrev pub invariant-loop-made : goal.invariant-loop-made
-invariant-loop-made l = KeptSoFar l.fn.store l.store l.line l.yielded l.rows.items

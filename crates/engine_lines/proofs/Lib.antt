@@ -1,0 +1,2 @@
+mod BesideTables
+mod RuleTables

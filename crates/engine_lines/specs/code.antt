@@ -1,0 +1,3 @@
+-- What serves the code and its proofs alone: nobody has to believe it.
+pub mod Beside
+pub mod Lines
