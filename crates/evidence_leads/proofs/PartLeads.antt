@@ -18,7 +18,7 @@ use Rattle.rule_meaning.specs.SetTests.{is_empty_test, is_set}
 use Rattle.rule_meaning.specs.StoreModel.{StoreModel}
 use Rattle.evidence_lines.specs.declared.line.Line.{Line}
 use Rattle.evidence_truth.specs.code.LineFails.{behind_conds, current_in, test_entries}
-use Rattle.evidence_leads.specs.code.Leads.{Leading, ToEntry, block_leads, call_leads, cite_leads, own, part_leads}
+use Rattle.evidence_leads.specs.code.Leads.{ToEntry, block_leads, call_leads, cite_leads, own, part_leads}
 
 block-seen : (site : ℕ) (any : Bool) (head : Query) (inner : Body) → see_part (part.Block site any head inner) ≡ sx.block site any (see_query head) (see_body inner)
 block-seen site any head inner = search (rules, the_lemmas)

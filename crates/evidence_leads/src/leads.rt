@@ -1,5 +1,5 @@
 //! What a line that says FAIL leads to, by the part of its site.
-ghost use Rattle.std.specs.Prelude.{◌≡◌, ◌&&◌, ◌∷◌, ℕ, Bool, List, Option, Some, true, false, All, map, IfOk, OnOk};
+ghost use Rattle.std.specs.Prelude.{◌≡◌, ◌&&◌, ℕ, Bool, List, Option, Some, true, false, All, map, IfOk, OnOk};
 ghost use Rattle.std.specs.List.{flat_map, list_all};
 ghost use Rattle.evidence_lines.specs.Lines.{line_of};
 ghost use Rattle.guard_syntax.specs.Syntax.{more_steps, no_steps};
@@ -28,7 +28,7 @@ use rule_names::Piece;
 use std::alloc::{AllocError, Global};
 use value_compare::Matchers;
 
-/// A test of each left row, by the site of its part.
+/// A test by the site of its part: what it asks, and whether it is negated.
 #[derive(Clone, Copy)]
 struct PartTest {
     part: u32,
@@ -100,14 +100,14 @@ fn push_part(
             not,
             ..
         } => {
+            let test = PartTest {
+                part: *site,
+                op: *op,
+                not: *not,
+            };
             if is_set_test(*op, left) {
-                push_set(alloc, lines, *site, *not, line, into)
+                push_set(alloc, lines, &test, line, into)
             } else {
-                let test = PartTest {
-                    part: *site,
-                    op: *op,
-                    not: *not,
-                };
                 push_rows_test(alloc, context, &test, cites, into)
             }
         }
@@ -147,21 +147,20 @@ fn push_rows_test(
 fn push_set(
     alloc: Global,
     lines: &LineList<'_>,
-    part: u32,
-    not: bool,
+    test: &PartTest,
     line: &Line<'_>,
     into: &mut Vec<Lead>,
 ) -> Result<(), AllocError>
     ensures { (known : StoreModel) → AreGrounded known lines.now → (holds : List Row → Row → Bool) → OnOk result (Appends known into.old.items into.new.items
-        (own (test_entries known lines.now part true not holds line.now.frame line.now.cites))) }
+        (own (test_entries known lines.now test.now.part true test.now.not holds line.now.frame line.now.cites))) }
 {
     let cited = rows_cited(lines, line.cites.as_slice(), 0).gather(alloc)?;
     let rows = cited.as_slice();
-    if not {
+    if test.not {
         let current = current_ref(lines, line.frame);
-        push_first_missing(lines, part, current, rows, into)
+        push_first_missing(lines, test.part, current, rows, into)
     } else {
-        push_found(lines, part, rows, into)
+        push_found(lines, test.part, rows, into)
     }
 }
 
@@ -206,7 +205,7 @@ fn push_cite(lines: &LineList<'_>, cite: u64, into: &mut Vec<Lead>) -> Result<()
     Ok(())
 }
 
-/// Appends what a block leads to: the first line cited gives its rows.
+/// Appends what a block leads to: the first line cited gives its rows, the lines behind are those of the body at these.
 fn push_block(
     alloc: Global,
     lines: &LineList<'_>,
@@ -219,24 +218,11 @@ fn push_block(
 {
     match cites {
         [] => Ok(()),
-        [head, bodies @ ..] => push_bodies(alloc, lines, part, *head, bodies, into),
+        [head, bodies @ ..] => {
+            let rows = rows_of_line(lines, *head).gather(alloc)?;
+            push_rows(lines, part, rows.as_slice(), bodies, into)
+        }
     }
-}
-
-/// Appends what a block leads to, by the line that gives its rows and the lines behind.
-fn push_bodies(
-    alloc: Global,
-    lines: &LineList<'_>,
-    part: u32,
-    head: u64,
-    bodies: &[u64],
-    into: &mut Vec<Lead>,
-) -> Result<(), AllocError>
-    ensures { (known : StoreModel) → AreGrounded known lines.now → OnOk result (Appends known into.old.items into.new.items
-        (block_leads known lines.now part (head ∷ bodies.now))) }
-{
-    let rows = rows_of_line(lines, head).gather(alloc)?;
-    push_rows(lines, part, rows.as_slice(), bodies, into)
 }
 
 /// Appends what the rows of a block lead to, rows and cites in step: a row at which nothing was found is an entry itself, one

@@ -1,11 +1,9 @@
-use Rattle.std.proofs.Common.{ℕ, List, [], ◌∷◌, subst, ◌∙◌, true, false, OnOk}
+use Rattle.std.proofs.Common.{ℕ, List, [], ◌∷◌, subst, true, false, OnOk}
 use Rattle.std.specs.List.{flat_map}
 use Rattle.guard_syntax.specs.code.Seen.{see_opt_conds}
 use Rattle.guard_syntax.specs.declared.row.Ref.{Ref}
 use Rattle.rule_meaning.specs.Fails.{IsRule, entry}
 use Rattle.rule_meaning.specs.Keys.{passes}
-use Rattle.rule_meaning.specs.StoreModel.{StoreModel}
-use Rattle.evidence_lines.specs.declared.line.Line.{Line}
 use Rattle.evidence_lookups.specs.code.Grounds.{known_of, lines_of}
 use Rattle.evidence_rules.specs.code.Judgement.{location_said}
 use Rattle.evidence_truth.specs.code.LineFails.{behind_conds, test_entries}
