@@ -16,8 +16,9 @@ use scope_frames::Frames;
 use std::alloc::Global;
 use value_compare::{PatternBook, Store};
 
-/// What is known while rules are evaluated, and the evidence of it. Each of its lines follows, whatever comes. Once a call
-/// has answered that there is no memory, each later one that takes memory answers so too.
+/// What is known while rules are evaluated, and the evidence of it. Each of its lines follows, whatever comes. The calls that
+/// add a line ask for tables that have all lines, but for `enter_file` and `enter`, which answer that there is no memory where
+/// it is `spent`.
 #[derive(Drop)]
 pub struct EngineLines<'t, 's> {
     pub alloc: Global,
@@ -34,7 +35,8 @@ pub struct EngineLines<'t, 's> {
     pub beside: IndexMap<Place, u64>,
     /// The lines of rules.
     pub rules: SiteLines,
-    /// Whether a call has answered that there is no memory: the tables may lack a line of the evidence then.
+    /// Whether a call has answered that there is no memory: the tables may lack a line of the evidence then. Here `enter_file`
+    /// and `enter` note it; whoever makes the other calls notes it too.
     pub spent: bool,
     pub ghost frames_over: { frames.file.now ≡ file.now },
     pub ghost store_over: { store.file.now ≡ file.now },

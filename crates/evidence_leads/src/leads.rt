@@ -205,7 +205,8 @@ fn push_cite(lines: &LineList<'_>, cite: u64, into: &mut Vec<Lead>) -> Result<()
     Ok(())
 }
 
-/// Appends what a block leads to: the first line cited gives its rows, the lines behind are those of the body at these.
+/// Appends what a block leads to: the first line that it cites gives its rows, and each one behind is that of the body at one
+/// of them.
 fn push_block(
     alloc: Global,
     lines: &LineList<'_>,
